@@ -1,0 +1,54 @@
+-- Angle and zero.
+use mathlib.Core.Bool.{Bool, cond}
+use Prim.Native.Nat.{ℕ, _/_, _%_}
+use lib.Dec.{eqb}
+use lib.IntN.{ℤ, pos, negℤ, _+ℤ_, _-ℤ_}
+use lib.Signed.{ltZ, quotZ}
+use Rattle.rules.specs.declared.parts.Reading.{Reading}
+use Rattle.rules.specs.declared.requests.Zeroed.{Zeroed}
+use Rattle.rules.specs.declared.requests.Zeroed.the-variants.{To, Refused}
+use Rattle.rules.specs.declared.settings.AxisSettings.{AxisSettings}
+use Rattle.rules.specs.Numbers.{minus, fits}
+use Rattle.rules.specs.State.{good}
+
+-- bit 0 and bit 1 of 6011
+abbrev pub reversed : ℕ → Bool
+reversed operating = eqb (operating % 2) 1
+
+abbrev pub shifted : ℕ → Bool
+shifted operating = eqb (operating / 2 % 2) 1
+
+-- "m / r cut toward zero"
+abbrev pub steps : ℤ → ℕ → ℤ
+steps m r = quotZ m (pos r)
+
+-- "q = s times (m / r cut toward zero)", "s is −1 where bit 0 of 6011 is set, else 1"
+unfoldable pub q : ℤ → ℕ → ℕ → ℤ
+q m r operating = cond (reversed operating) (negℤ (steps m r)) (steps m r)
+
+-- "brought into" −end to end "at the nearer end"
+abbrev pub nearer : ℕ → ℤ → ℤ
+nearer end z = cond (ltZ z (minus end)) (minus end) (cond (ltZ (pos end) z) (pos end) z)
+
+-- "The angle is q, plus offset plus differential offset where bit 1 is set"
+unfoldable pub sum : ℤ → ℕ → ℕ → ℤ → ℤ → ℤ
+sum m r operating offset differential =
+    cond (shifted operating) (q m r operating +ℤ offset +ℤ differential) (q m r operating)
+
+-- "and then brought into −32,767 to 32,767 at the nearer end"
+unfoldable pub angle : ℤ → ℕ → ℕ → ℤ → ℤ → ℤ
+angle m r operating offset differential = nearer 32767 (sum m r operating offset differential)
+
+-- "An axis that is none or faulty shows −32,768 in the PDO"
+unfoldable pub shown : Reading → ℕ → AxisSettings → ℤ
+shown x r s = cond (eqb (x .state) good) (angle (x .m) r (s .operating) (s .offset) (s .differential)) (minus 32768)
+
+-- "offset = preset − q − differential offset"
+unfoldable pub offset : ℤ → ℕ → ℕ → ℤ → ℤ → ℤ
+offset m r operating differential preset = preset -ℤ q m r operating -ℤ differential
+
+-- "refused exactly if the axis is not good (08000022h), or else if the offset would not fit 16 signed bits (06090030h)"
+unfoldable pub zeroed : Reading → ℕ → ℕ → ℤ → ℤ → Zeroed
+zeroed x r operating differential preset =
+    let o = offset (x .m) r operating differential preset in
+    cond (eqb (x .state) good) (cond (fits 16 o) (To o) (Refused 0x06090030)) (Refused 0x08000022)

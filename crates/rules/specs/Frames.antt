@@ -1,0 +1,46 @@
+-- The frames that the device sends.
+use mathlib.Core.List.{List, [], _∷_, _++_}
+use Prim.Native.Nat.{ℕ, _+_}
+use lib.ListN.{length, take, replicate}
+use Rattle.rules.specs.declared.events.Frame.{Frame}
+use Rattle.rules.specs.declared.objects.Channel.{Channel}
+use Rattle.rules.specs.declared.objects.Channel.the-variants.{One, Two}
+use Rattle.rules.specs.declared.parts.Reading.{Reading}
+use Rattle.rules.specs.declared.settings.Settings.{Settings}
+use Rattle.rules.specs.Numbers.{two, unsigned}
+use Rattle.rules.specs.Angle.{shown}
+
+-- an identifier and up to eight bytes; what stands past the bytes is 0
+abbrev pub frame : ℕ → List ℕ → Frame
+frame identifier bytes = record { identifier = identifier; length = length bytes; bytes = take 8 (bytes ++ replicate 8 0) }
+
+-- where a channel's requests come and its replies go: 1200 and 1201
+abbrev pub requestsAt : Channel → ℕ
+requestsAt One = 0x600
+requestsAt Two = 0x680
+
+abbrev pub repliesAt : Channel → ℕ
+repliesAt One = 0x580
+repliesAt Two = 0x6B0
+
+-- "boot-up (700h+node, 00h)"
+abbrev pub bootUp : ℕ → Frame
+bootUp node = frame (0x700 + node) (0 ∷ [])
+
+-- "one heartbeat (state 4, 5 or 127)"
+abbrev pub heartbeat : ℕ → ℕ → Frame
+heartbeat node network = frame (0x700 + node) (network ∷ [])
+
+-- "EMCY: 80h+node, code, register, five zeros"
+abbrev pub emergency : ℕ → ℕ → ℕ → Frame
+emergency node code register = frame (0x80 + node) (two code ++ register ∷ 0 ∷ 0 ∷ 0 ∷ 0 ∷ 0 ∷ [])
+
+-- "PDO: 180h+node, X then Y, 4 bytes"
+unfoldable pub pdoFrame : ℕ → Reading → Reading → Settings → Frame
+pdoFrame node x y s =
+    frame (0x180 + node)
+    (two (unsigned 16 (shown x (s .resolution) (s .x))) ++ two (unsigned 16 (shown y (s .resolution) (s .y))))
+
+-- a service reply on its channel
+abbrev pub replyFrame : Channel → ℕ → List ℕ → Frame
+replyFrame c node bytes = frame (repliesAt c + node) bytes

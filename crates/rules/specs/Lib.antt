@@ -1,0 +1,12 @@
+pub mod Numbers
+pub mod State
+pub mod Cells
+pub mod Settings
+pub mod Errors
+pub mod Angle
+pub mod Frames
+pub mod Objects
+pub mod Check
+pub mod Block
+pub mod Journal
+pub mod Ranges

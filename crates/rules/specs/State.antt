@@ -1,0 +1,89 @@
+-- The device and what moves it: the device record and the journal it is lent.
+use mathlib.Core.List.{List}
+use Prim.Native.Nat.{ℕ}
+use Rattle.rules.specs.declared.errors.ErrorList.{ErrorList}
+use Rattle.rules.specs.declared.objects.Axis.{Axis}
+use Rattle.rules.specs.declared.objects.Axis.the-variants.{X, Y}
+use Rattle.rules.specs.declared.parts.Identity.{Identity}
+use Rattle.rules.specs.declared.parts.PdoCounts.{PdoCounts}
+use Rattle.rules.specs.declared.parts.Reading.{Reading}
+use Rattle.rules.specs.declared.parts.Saves.{Saves}
+use Rattle.rules.specs.declared.settings.Settings.{Settings}
+
+-- the device record, field by field, and the journal's bytes
+pub record State : Type 0 where
+  pub node : ℕ
+  pub identity : Identity
+  pub network : ℕ
+  pub saves : Saves
+  pub running : Settings
+  pub errors : ErrorList
+  pub heartbeat : ℕ
+  pub pdo : PdoCounts
+  pub one : ℕ
+  pub two : ℕ
+  pub x : Reading
+  pub y : Reading
+  pub journal : List ℕ
+
+-- "NMT state 4, 5 or 127"
+abbrev pub stopped : ℕ
+stopped = 4
+
+abbrev pub operational : ℕ
+operational = 5
+
+abbrev pub preOperational : ℕ
+preOperational = 127
+
+-- "a segmented transfer on each channel, absent or at the start or after 7 bytes"
+abbrev pub absent : ℕ
+absent = 0
+
+abbrev pub atStart : ℕ
+atStart = 1
+
+abbrev pub afterSeven : ℕ
+afterSeven = 2
+
+-- "axis none, good or faulty"
+abbrev pub none : ℕ
+none = 0
+
+abbrev pub good : ℕ
+good = 1
+
+abbrev pub faulty : ℕ
+faulty = 2
+
+abbrev pub reading : Axis → State → Reading
+reading X u = u .x
+reading Y u = u .y
+
+-- the state with what the network, time and readings move: NMT state, counts, error list, axes
+abbrev pub moved : ℕ → ℕ → PdoCounts → ErrorList → Reading → Reading → State → State
+moved network heartbeat pdo errors x y u = record {
+  node = u .node;
+  identity = u .identity;
+  network = network;
+  saves = u .saves;
+  running = u .running;
+  errors = errors;
+  heartbeat = heartbeat;
+  pdo = pdo;
+  one = u .one;
+  two = u .two;
+  x = x;
+  y = y;
+  journal = u .journal;
+}
+
+abbrev pub withCounts : ℕ → PdoCounts → State → State
+withCounts heartbeat pdo u = moved (u .network) heartbeat pdo (u .errors) (u .x) (u .y) u
+
+abbrev pub withNetwork : ℕ → PdoCounts → State → State
+withNetwork network pdo u = moved network (u .heartbeat) pdo (u .errors) (u .x) (u .y) u
+
+abbrev pub withReading : Axis → Reading → ErrorList → State → State
+withReading X r errors u = moved (u .network) (u .heartbeat) (u .pdo) errors r (u .y) u
+withReading Y r errors u = moved (u .network) (u .heartbeat) (u .pdo) errors (u .x) r u

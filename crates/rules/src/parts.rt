@@ -1,0 +1,34 @@
+// The parts of the device record beside its settings and its error list: plain numbers, so that any record can be given.
+use crate::settings::Settings;
+
+// 1018: four numbers given at power-on.
+#[repr(C)]
+pub struct Identity {
+    pub vendor: u32,
+    pub product: u32,
+    pub revision: u32,
+    pub serial: u32,
+}
+
+// An axis: none (0), good (1) or faulty (2), and its last good reading.
+#[repr(C)]
+pub struct Reading {
+    pub state: u8,
+    pub m: i32,
+}
+
+// The PDO's elapsed milliseconds and its SYNC count.
+#[repr(C)]
+pub struct PdoCounts {
+    pub elapsed: u16,
+    pub syncs: u8,
+}
+
+// What the record keeps of the journal; spoiled is 1 or 0.
+#[repr(C)]
+pub struct Saves {
+    pub blocks: u16,
+    pub filled: u16,
+    pub spoiled: u8,
+    pub stored: Settings,
+}
