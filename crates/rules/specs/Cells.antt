@@ -2,6 +2,8 @@
 use mathlib.Core.List.{List}
 use Prim.Native.Nat.{ℕ}
 use Rattle.rules.specs.declared.errors.ErrorList.{ErrorList}
+use Rattle.rules.specs.declared.objects.Axis.{Axis}
+use Rattle.rules.specs.declared.objects.Axis.the-variants.{X, Y}
 use Rattle.rules.specs.declared.objects.Channel.{Channel}
 use Rattle.rules.specs.declared.objects.Channel.the-variants.{One, Two}
 use Rattle.rules.specs.declared.objects.Setting.{Setting}
@@ -27,6 +29,10 @@ pub record Rest : Type 0 where
   pub spoiled : ℕ
   pub x : Reading
   pub y : Reading
+
+abbrev pub readingIn : Axis → Rest → Reading
+readingIn X t = t .x
+readingIn Y t = t .y
 
 -- the parts that requests act on
 pub data Cell : Type 0 where

@@ -27,6 +27,10 @@ pub record Row : Type 0 where
 abbrev pub row : ℕ → ℕ → ℕ → Bool → Row
 row index subindex size writable = record { index = index; subindex = subindex; size = size; writable = writable }
 
+-- an object is one index with one subindex
+abbrev pub sameObject : Row → Row → Bool
+sameObject a b = eqb (a .index) (b .index) && eqb (a .subindex) (b .subindex)
+
 -- types, by their length
 abbrev pub u8 : ℕ
 u8 = 1

@@ -56,6 +56,10 @@ good = 1
 abbrev pub faulty : ℕ
 faulty = 2
 
+-- the PDO's counts zeroed
+abbrev pub noCounts : PdoCounts
+noCounts = record { elapsed = 0; syncs = 0 }
+
 abbrev pub reading : Axis → State → Reading
 reading X u = u .x
 reading Y u = u .y

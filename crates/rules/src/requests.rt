@@ -40,3 +40,11 @@ pub enum Change {
     Empty,
     Fill(Channel, u8, Settings),
 }
+
+// What a request brings about: a reply of eight bytes or none, the channel's transfer after it, and the change.
+pub struct Outcome {
+    pub replies: bool,
+    pub bytes: [u8; 8],
+    pub transfer: u8,
+    pub change: Change,
+}

@@ -1,0 +1,80 @@
+-- Network, heartbeat, PDO, errors: NMT commands and resets.
+use mathlib.Core.Bool.{Bool, cond, _&&_, _||_}
+use mathlib.Core.List.{List, [], _∷_}
+use Prim.Native.Nat.{ℕ}
+use lib.Dec.{eqb}
+use lib.IntN.{pos}
+use lib.ListN.{getD}
+use Rattle.rules.specs.declared.parts.Identity.{Identity}
+use Rattle.rules.specs.declared.parts.Reading.{Reading}
+use Rattle.rules.specs.declared.parts.Saves.{Saves}
+use Rattle.rules.specs.Errors.{noErrors, entered, register}
+use Rattle.rules.specs.Frames.{bootUp, emergency}
+use Rattle.rules.specs.Results.{Result, accepted, ignored}
+use Rattle.rules.specs.State.{State, stopped, operational, preOperational, absent, none, noCounts, withNetwork}
+
+abbrev pub noReading : Reading
+noReading = record { state = none; m = pos 0 }
+
+-- the device as power-on and 81h leave it: "takes all settings, empties the list and sets both axes to none"
+abbrev pub started : ℕ → Identity → Saves → List ℕ → State
+started node identity saves journal = record {
+  node = node;
+  identity = identity;
+  network = preOperational;
+  saves = saves;
+  running = saves .stored;
+  errors = cond (eqb (saves .spoiled) 0) noErrors (entered 0xFF00 noErrors);
+  heartbeat = 0;
+  pdo = noCounts;
+  one = absent;
+  two = absent;
+  x = noReading;
+  y = noReading;
+  journal = journal;
+}
+
+-- "EMCY FF00h (register 81h) follows boot-up, listed, at power-on and after 81h"
+unfoldable pub start : ℕ → Identity → Saves → List ℕ → Result
+start node identity saves journal =
+    accepted (started node identity saves journal)
+    (bootUp node ∷ cond (eqb (saves .spoiled) 0) [] (emergency node 0xFF00 (register (saves .spoiled) none none) ∷ []))
+
+-- "82h takes 1017 and 1800 from the stored settings"
+abbrev pub communicating : State → State
+communicating u = record {
+  node = u .node;
+  identity = u .identity;
+  network = preOperational;
+  saves = u .saves;
+  running = record {
+    heartbeat = u .saves .stored .heartbeat;
+    pdo = u .saves .stored .pdo;
+    resolution = u .running .resolution;
+    x = u .running .x;
+    y = u .running .y;
+  };
+  errors = u .errors;
+  heartbeat = 0;
+  pdo = noCounts;
+  one = absent;
+  two = absent;
+  x = u .x;
+  y = u .y;
+  journal = u .journal;
+}
+
+-- "01h Operational, 02h Stopped, 80h Pre-Operational, 81h, 82h resets; a different command is ignored"; "Start zeroes the PDO's elapsed and SYNC counts"
+unfoldable pub onCommand : ℕ → State → Result
+onCommand command u =
+    cond (eqb command 0x01) (ignored (withNetwork operational noCounts u))
+    (cond (eqb command 0x02) (ignored (withNetwork stopped (u .pdo) u))
+    (cond (eqb command 0x80) (ignored (withNetwork preOperational (u .pdo) u))
+    (cond (eqb command 0x81) (start (u .node) (u .identity) (u .saves) (u .journal))
+    (cond (eqb command 0x82) (accepted (communicating u) (bootUp (u .node) ∷ []))
+    (ignored u)))))
+
+-- "length 2, node 0 or own"
+unfoldable pub onNetwork : List ℕ → ℕ → State → Result
+onNetwork bytes length u =
+    cond (eqb length 2 && (eqb (getD bytes 1 0) 0 || eqb (getD bytes 1 0) (u .node))) (onCommand (getD bytes 0 0) u) (ignored u)

@@ -1,0 +1,55 @@
+-- Sample values (a) to (l), one table.
+use mathlib.Core.Path.{_≡_}
+use mathlib.Core.Bool.{Bool, true, false}
+use mathlib.Core.List.{List, [], _∷_}
+use Prim.Native.Nat.{ℕ}
+use lib.IntN.{ℤ, pos}
+use lib.ListN.{getD}
+use Rattle.rules.specs.declared.objects.Setting.the-variants.{Heartbeat, Transmission}
+use Rattle.rules.specs.declared.requests.Zeroed.{Zeroed}
+use Rattle.rules.specs.declared.requests.Zeroed.the-variants.{To, Refused}
+use Rattle.rules.specs.Angle.{angle, zeroed}
+use Rattle.rules.specs.Numbers.{minus}
+use Rattle.rules.specs.Replies.{firstSegment, lastSegment}
+use Rattle.rules.specs.Settings.{within}
+use Rattle.rules.specs.State.{good}
+
+pub data Sample : Type 0 where
+  shows : ℤ → Sample
+  zeroes : Zeroed → Sample
+  passes : Bool → Sample
+  begins : ℕ → Sample
+
+-- the angle of m at r with the bits of 6011 and an offset, and a preset on a good axis
+abbrev pub angleOf : ℤ → ℕ → ℕ → ℤ → Sample
+angleOf m r operating offset = shows (angle m r operating offset (pos 0))
+
+abbrev pub presetOn : ℤ → ℕ → ℤ → Sample
+presetOn m r preset = zeroes (zeroed (record { state = good; m = m }) r 0 (pos 0) preset)
+
+-- what is asked, (a) to (l) in their order
+abbrev pub asked : List Sample
+asked =
+    angleOf (pos 12345) 10 0 (pos 0) ∷ angleOf (pos 12345) 10 1 (pos 0) ∷ angleOf (minus 19) 10 0 (pos 0) ∷
+    angleOf (pos 180000) 1 0 (pos 0) ∷ angleOf (minus 180000) 1 0 (pos 0) ∷
+    presetOn (pos 12345) 10 (pos 0) ∷ angleOf (pos 12345) 10 2 (minus 1234) ∷
+    presetOn (pos 32000) 1 (minus 768) ∷ presetOn (pos 32000) 1 (minus 769) ∷
+    passes (within Heartbeat 0) ∷ passes (within Heartbeat 25) ∷ passes (within Heartbeat 24) ∷
+    passes (within Transmission 240) ∷ passes (within Transmission 254) ∷ passes (within Transmission 0) ∷
+    passes (within Transmission 241) ∷ passes (within Transmission 253) ∷
+    begins (getD firstSegment 0 0) ∷ begins (getD lastSegment 0 0) ∷ []
+
+-- what the paper says
+abbrev pub told : List Sample
+told =
+    shows (pos 1234) ∷ shows (minus 1234) ∷ shows (minus 1) ∷
+    shows (pos 32767) ∷ shows (minus 32767) ∷
+    zeroes (To (minus 1234)) ∷ shows (pos 0) ∷
+    zeroes (To (minus 32768)) ∷ zeroes (Refused 0x06090030) ∷
+    passes true ∷ passes true ∷ passes false ∷
+    passes true ∷ passes true ∷ passes false ∷
+    passes false ∷ passes false ∷
+    begins 0x00 ∷ begins 0x19 ∷ []
+
+abbrev pub Samples : Type 0
+Samples = asked ≡ told

@@ -1,0 +1,180 @@
+-- Service channels: the outcome of a request, and the outcome's act on each cell by itself.
+use mathlib.Core.Bool.{Bool, true, false, cond, _||_}
+use mathlib.Core.List.{List, [], _∷_}
+use Prim.Native.Nat.{ℕ, _+_}
+use lib.Dec.{eqb, ltb}
+use lib.IntN.{ℤ}
+use Rattle.rules.specs.declared.errors.ErrorList.{ErrorList}
+use Rattle.rules.specs.declared.objects.Axis.{Axis}
+use Rattle.rules.specs.declared.objects.Axis.the-variants.{X, Y}
+use Rattle.rules.specs.declared.objects.Channel.{Channel}
+use Rattle.rules.specs.declared.objects.Channel.the-variants.{One, Two}
+use Rattle.rules.specs.declared.objects.Found.{Found}
+use Rattle.rules.specs.declared.objects.Found.the-variants.{At, NoObject, NoSubindex}
+use Rattle.rules.specs.declared.objects.Setting.{Setting}
+use Rattle.rules.specs.declared.objects.Setting.the-variants.{Heartbeat, On, Transmission, Timer, Resolution, Operating, Preset, Offset, Differential}
+use Rattle.rules.specs.declared.parts.PdoCounts.{PdoCounts}
+use Rattle.rules.specs.declared.requests.Change.{Change}
+use Rattle.rules.specs.declared.requests.Change.the-variants.{Keep, Put, Zero, Empty, Fill}
+use Rattle.rules.specs.declared.requests.Command.{Command}
+use Rattle.rules.specs.declared.requests.Command.the-variants.{Write, Read, Segment, End, Unknown}
+use Rattle.rules.specs.declared.requests.Got.{Got}
+use Rattle.rules.specs.declared.requests.Got.the-variants.{Number, Text, Missing}
+use Rattle.rules.specs.declared.requests.Outcome.{Outcome}
+use Rattle.rules.specs.declared.requests.Verdict.{Verdict}
+use Rattle.rules.specs.declared.requests.Verdict.the-variants.{Pass, Abort}
+use Rattle.rules.specs.Block.{block, channelNumber}
+use Rattle.rules.specs.Cells.{Kept, Cell, running, errors, kept, heartbeat, pdo, transfer, rest, Content, get, stateOf}
+use Rattle.rules.specs.Errors.{noErrors}
+use Rattle.rules.specs.Journal.{putBehind}
+use Rattle.rules.specs.Numbers.{signed}
+use Rattle.rules.specs.Objects.{sameObject, settingRow, objectAt}
+use Rattle.rules.specs.Reads.{readOf}
+use Rattle.rules.specs.Replies.{written, readNumber, readText, aborted, firstSegment, lastSegment, wrongToggle, noTransfer}
+use Rattle.rules.specs.Requests.{command, index, subindex, valueFor}
+use Rattle.rules.specs.Settings.{Held}
+use Rattle.rules.specs.State.{State, operational, preOperational, absent, atStart, afterSeven, noCounts}
+use Rattle.rules.specs.Writes.{change, writeCheck}
+
+-- a reply, with the transfer after it and the change; and no reply
+abbrev pub replied : List ℕ → ℕ → Change → Outcome
+replied bytes t e = record { replies = true; bytes = bytes; transfer = t; change = e }
+
+abbrev pub silent : ℕ → Outcome
+silent t = record { replies = false; bytes = 0 ∷ 0 ∷ 0 ∷ 0 ∷ 0 ∷ 0 ∷ 0 ∷ 0 ∷ []; transfer = t; change = Keep }
+
+-- "An abort, sent or received, the last segment or any new initiate ends that channel's transfer"
+abbrev pub refuse : List ℕ → ℕ → Outcome
+refuse request code = replied (aborted request code) absent Keep
+
+abbrev pub onWrite : List ℕ → Verdict → Change → Outcome
+onWrite request Pass e = replied (written request) absent e
+onWrite request (Abort code) e = refuse request code
+
+-- "an initiate read of the string begins one"
+abbrev pub onRead : List ℕ → Got → Outcome
+onRead request (Number size n) = replied (readNumber size request n) absent Keep
+onRead request Text = replied (readText request) atStart Keep
+onRead request (Missing code) = refuse request code
+
+-- "toggle starts at 0"; "No transfer" is looked at first
+unfoldable pub onSegment : ℕ → ℕ → Outcome
+onSegment toggle t =
+    cond (eqb t absent) (replied noTransfer absent Keep)
+    (cond (eqb t atStart) (cond (eqb toggle 0) (replied firstSegment afterSeven Keep) (replied wrongToggle absent Keep))
+    (cond (eqb toggle 1) (replied lastSegment absent Keep) (replied wrongToggle absent Keep)))
+
+-- "Checks in order: first byte; object (06020000h); subindex (06090011h) …"; "All others get 05040001h"; "80h ends the transfer, no reply"
+abbrev pub onCommand : Channel → List ℕ → Command → Found → State → Outcome
+onCommand c request (Write given) (At o) u = onWrite request (writeCheck given o (valueFor o request) u) (change c o (valueFor o request) u)
+onCommand c request (Write given) NoObject u = refuse request 0x06020000
+onCommand c request (Write given) NoSubindex u = refuse request 0x06090011
+onCommand c request Read (At o) u = onRead request (readOf o u)
+onCommand c request Read NoObject u = refuse request 0x06020000
+onCommand c request Read NoSubindex u = refuse request 0x06090011
+onCommand c request (Segment toggle) f u = onSegment toggle (get (transfer c) u)
+onCommand c request End f u = silent absent
+onCommand c request Unknown f u = refuse request 0x05040001
+
+-- "Served in Pre-Operational and Operational"
+abbrev pub served : ℕ → Bool
+served network = eqb network preOperational || eqb network operational
+
+abbrev pub outcome : Channel → List ℕ → State → Outcome
+outcome c request u =
+    cond (served (get rest u .network))
+    (onCommand c request (command request) (objectAt (index request) (subindex request)) u)
+    (silent (get (transfer c) u))
+
+-- a written value as a setting holds it; bit 31 of 1800:1 is "off"
+abbrev pub valued : (s : Setting) → ℕ → Held s
+valued Heartbeat v = v
+valued On v = cond (ltb v 0x80000000) 1 0
+valued Transmission v = v
+valued Timer v = v
+valued Resolution v = v
+valued (Operating a) v = v
+valued (Preset a) v = signed 16 v
+valued (Offset a) v = signed 16 v
+valued (Differential a) v = signed 16 v
+
+abbrev pub sameAxis : Axis → Axis → Bool
+sameAxis X X = true
+sameAxis X Y = false
+sameAxis Y X = false
+sameAxis Y Y = true
+
+-- an axis's preset and offset
+abbrev pub zeroedAt : Axis → ℤ → ℤ → (s : Setting) → Held s → Held s
+zeroedAt a preset offset Heartbeat x = x
+zeroedAt a preset offset On x = x
+zeroedAt a preset offset Transmission x = x
+zeroedAt a preset offset Timer x = x
+zeroedAt a preset offset Resolution x = x
+zeroedAt a preset offset (Operating b) x = x
+zeroedAt a preset offset (Preset b) x = cond (sameAxis a b) preset x
+zeroedAt a preset offset (Offset b) x = cond (sameAxis a b) offset x
+zeroedAt a preset offset (Differential b) x = x
+
+-- "running ones wait for a reset": a save or a load leaves them
+abbrev pub onSetting : Change → (s : Setting) → Held s → Held s
+onSetting Keep s x = x
+onSetting (Put t v) s x = cond (sameObject (settingRow s) (settingRow t)) (valued s v) x
+onSetting (Zero a preset offset) s x = zeroedAt a preset offset s x
+onSetting Empty s x = x
+onSetting (Fill c kind t) s x = x
+
+abbrev pub onErrors : Change → ErrorList → ErrorList
+onErrors Keep x = x
+onErrors (Put s v) x = x
+onErrors (Zero a preset offset) x = x
+onErrors Empty x = noErrors
+onErrors (Fill c kind t) x = x
+
+-- the next block filled; "Both update the stored settings"
+abbrev pub onKept : Change → Kept → Kept
+onKept Keep x = x
+onKept (Put s v) x = x
+onKept (Zero a preset offset) x = x
+onKept Empty x = x
+onKept (Fill c kind t) x = record {
+  filled = x .filled + 1;
+  stored = t;
+  journal = putBehind (x .filled) (block (x .filled + 1) (channelNumber c) kind t) (x .journal);
+}
+
+-- "A write to 1017 zeroes the heartbeat's" count
+abbrev pub onHeartbeat : Change → ℕ → ℕ
+onHeartbeat Keep x = x
+onHeartbeat (Put s v) x = cond (eqb (settingRow s .index) 0x1017) 0 x
+onHeartbeat (Zero a preset offset) x = x
+onHeartbeat Empty x = x
+onHeartbeat (Fill c kind t) x = x
+
+-- "so does an accepted write to 1800": it zeroes the PDO's elapsed and SYNC counts
+abbrev pub onPdo : Change → PdoCounts → PdoCounts
+onPdo Keep x = x
+onPdo (Put s v) x = cond (eqb (settingRow s .index) 0x1800) noCounts x
+onPdo (Zero a preset offset) x = x
+onPdo Empty x = x
+onPdo (Fill c kind t) x = x
+
+-- each channel has its own transfer
+abbrev pub onTransfer : Channel → Channel → ℕ → ℕ → ℕ
+onTransfer One One next x = next
+onTransfer One Two next x = x
+onTransfer Two One next x = x
+onTransfer Two Two next x = next
+
+abbrev pub act : Channel → Outcome → (k : Cell) → Content k → Content k
+act c o (running s) x = onSetting (o .change) s x
+act c o errors x = onErrors (o .change) x
+act c o kept x = onKept (o .change) x
+act c o heartbeat x = onHeartbeat (o .change) x
+act c o pdo x = onPdo (o .change) x
+act c o (transfer b) x = onTransfer c b (o .transfer) x
+act c o rest x = x
+
+-- the state after an outcome on a channel
+abbrev pub after : Channel → Outcome → State → State
+after c o u = stateOf (λ k. act c o k (get k u))
