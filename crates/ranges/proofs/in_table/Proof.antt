@@ -1,0 +1,47 @@
+-- `in_table` meets its contract: what it does not test, the widths of the fields say.
+use mathlib.Core.Path.{_≡_}
+use mathlib.Core.Bool.{true, and-true, and-assoc}
+use mathlib.Core.List.{List}
+use native.Mathlib.Omega.{arith}
+use borrow.Author.Tests.{le-leb}
+use denote.Laws.{Is}
+use denote.Struct.Declared.{field}
+use mir.Val.{Val}
+use Rattle.rules.specs.declared.settings.AxisSettings.{AxisSettings}
+use Rattle.rules.specs.Numbers.{fits}
+use Rattle.rules.specs.Settings.{inTable}
+use Rattle.rules.proofs.Ranges.{fits-sixteen}
+use Rattle.rules.proofs.settings.AxisSettings.{the-type}
+use Rattle.ranges.proofs.in_table.Statement.{statement}
+use Rattle.ranges.proofs.in_table.Tie as tie
+
+-- an axis's signed settings, as the machine holds them
+sixteen : (a : AxisSettings) (vs : List Val) → Is (field the-type .row) (field the-type .into a) vs → (fits 16 (a .preset) ≡ true) × (fits 16 (a .offset) ≡ true) × (fits 16 (a .differential) ≡ true)
+sixteen a vs h =
+    let l = h .1 .1 .1 in
+    (fits-sixteen (a .preset) (l .0 .1), fits-sixteen (a .offset) (l .1 .0 .1), fits-sixteen (a .differential) (l .1 .1 .0 .1))
+
+returns : tie.Need-returns
+unfolding inTable
+returns c =
+    let s = c .before .before .before .args .s in
+    let f = c .struct-known3 .given in
+    let axes = c .before .before .before .good .0 .1 .1 .1 .1 .1 in
+    let x = sixteen (s .x) _ (axes .0) in
+    let y = sixteen (s .y) _ (axes .1 .0) in
+    simp (
+      and-assoc,
+      and-true,
+      le-leb (s .heartbeat) 65535 (omega arith),
+      le-leb (s .pdo .transmission) 255 (omega arith),
+      le-leb (s .pdo .timer) 65535 (omega arith),
+      x .0,
+      x .1,
+      x .2,
+      y .0,
+      y .1,
+      y .2,
+    )
+
+pub in-table-spec : {M : Type 1} → statement M
+in-table-spec = tie.close (tie.spec returns)

@@ -1,0 +1,142 @@
+// The ranges of the device record: what a record holds that is not refused with 3.
+ghost use mathlib.Core.Path.{_≡_};
+ghost use Rattle.rules.specs.Settings.{inTable};
+ghost use Rattle.rules.specs.Ranges.{nodeOk, networkOk, savesOk, codeOk, errorsOk, elapsedOk, syncsOk, countsOk, transferOk, axisOk};
+use rules::errors::ErrorList;
+use rules::parts::PdoCounts;
+use rules::parts::Reading;
+use rules::parts::Saves;
+use rules::settings::AxisSettings;
+use rules::settings::PdoSettings;
+use rules::settings::Settings;
+
+const MOST_NODE: u32 = 47;
+
+const STOPPED: u8 = 4;
+
+const OPERATIONAL: u8 = 5;
+
+const PRE_OPERATIONAL: u8 = 127;
+
+const MOST_BLOCKS: u16 = 128;
+
+const LEAST_CODE: u16 = 0xFF00;
+
+const MOST_CODE: u16 = 0xFF02;
+
+const AFTER_SEVEN: u8 = 2;
+
+const NONE: u8 = 0;
+
+const FAULTY: u8 = 2;
+
+const MOST_MEASURED: i32 = 180000;
+
+// What the width of a field leaves to be tested of its settings.
+pub fn in_table(s: Settings) -> bool
+    ensures { λ r. ⌜ r ≡ inTable s ⌝ }
+{
+    let period = s.heartbeat;
+    let transmission = s.pdo.transmission;
+    let resolution = s.resolution;
+    ((period == 0) | (Settings::LEAST_PERIOD <= period))
+        & (s.pdo.on <= 1)
+        & (((PdoSettings::LEAST_SYNCHRONOUS <= transmission)
+            & (transmission <= PdoSettings::MOST_SYNCHRONOUS))
+            | (PdoSettings::LEAST_TIMED <= transmission))
+        & ((resolution == 1) | (resolution == 10) | (resolution == 100) | (resolution == 1000))
+        & (s.x.operating <= AxisSettings::MOST_OPERATING)
+        & (s.y.operating <= AxisSettings::MOST_OPERATING)
+}
+
+pub fn node_ok(node: u32) -> bool
+    ensures { λ r. ⌜ r ≡ nodeOk node ⌝ }
+{
+    (1 <= node) & (node <= MOST_NODE)
+}
+
+pub fn network_ok(network: u8) -> bool
+    ensures { λ r. ⌜ r ≡ networkOk network ⌝ }
+{
+    (network == STOPPED) | (network == OPERATIONAL) | (network == PRE_OPERATIONAL)
+}
+
+pub fn saves_ok(s: Saves) -> bool
+    ensures { λ r. ⌜ r ≡ savesOk s ⌝ }
+{
+    (1 <= s.blocks)
+        & (s.blocks <= MOST_BLOCKS)
+        & (s.filled <= s.blocks)
+        & (s.spoiled <= 1)
+        & in_table(s.stored)
+}
+
+// The code at a place of a list: past the list's end it is 0.
+fn code_ok(length: u8, place: u8, code: u16) -> bool
+    ensures { λ r. ⌜ r ≡ codeOk length place code ⌝ }
+{
+    if place < length {
+        (LEAST_CODE <= code) & (code <= MOST_CODE)
+    } else {
+        code == 0
+    }
+}
+
+pub fn errors_ok(l: ErrorList) -> bool
+    ensures { λ r. ⌜ r ≡ errorsOk l ⌝ }
+{
+    let n = l.length;
+    let codes = l.codes;
+    (n <= ErrorList::MOST)
+        & code_ok(n, 0, codes[0])
+        & code_ok(n, 1, codes[1])
+        & code_ok(n, 2, codes[2])
+        & code_ok(n, 3, codes[3])
+        & code_ok(n, 4, codes[4])
+}
+
+pub fn elapsed_ok(period: u16, elapsed: u16) -> bool
+    ensures { λ r. ⌜ r ≡ elapsedOk period elapsed ⌝ }
+{
+    if period == 0 {
+        elapsed == 0
+    } else {
+        elapsed < period
+    }
+}
+
+fn syncs_ok(transmission: u8, syncs: u8) -> bool
+    ensures { λ r. ⌜ r ≡ syncsOk transmission syncs ⌝ }
+{
+    if (PdoSettings::LEAST_SYNCHRONOUS <= transmission)
+        & (transmission <= PdoSettings::MOST_SYNCHRONOUS)
+    {
+        syncs < transmission
+    } else {
+        syncs == 0
+    }
+}
+
+pub fn counts_ok(s: PdoSettings, c: PdoCounts) -> bool
+    ensures { λ r. ⌜ r ≡ countsOk s c ⌝ }
+{
+    elapsed_ok(s.timer, c.elapsed) & syncs_ok(s.transmission, c.syncs)
+}
+
+pub fn transfer_ok(transfer: u8) -> bool
+    ensures { λ r. ⌜ r ≡ transferOk transfer ⌝ }
+{
+    transfer <= AFTER_SEVEN
+}
+
+pub fn inside(m: i32) -> bool
+    ensures { λ r. ⌜ r ≡ Rattle.rules.specs.Ranges.inside m ⌝ }
+{
+    (-MOST_MEASURED <= m) & (m <= MOST_MEASURED)
+}
+
+pub fn axis_ok(x: Reading) -> bool
+    ensures { λ r. ⌜ r ≡ axisOk x ⌝ }
+{
+    (x.state <= FAULTY) & inside(x.m) & ((x.state != NONE) | ((0 <= x.m) & (x.m <= 0)))
+}
