@@ -1,6 +1,6 @@
 -- Laws of tests.
 use mathlib.Core.Path.{_≡_, refl, sym, subst}
-use mathlib.Core.Bool.{Bool, true, false, cond, _&&_}
+use mathlib.Core.Bool.{Bool, true, false, cond, _&&_, _||_}
 use mathlib.Core.List.{List, [], _∷_}
 use Prim.Native.Nat.{ℕ, zero, suc}
 use lib.Dec.{T}
@@ -28,3 +28,23 @@ right false b e = no e
 pub cond-both : {A : Type 0} (P : A → Type 0) (t : Bool) {a b : A} → P a → P b → P (cond t a b)
 cond-both P true p q = p
 cond-both P false p q = q
+
+-- what follows from each of two tests follows where one of them holds
+pub either : {P : Type 0} (a b : Bool) → (a ≡ true → P) → (b ≡ true → P) → a || b ≡ true → P
+either true b p q e = p refl
+either false b p q e = q e
+
+-- tests in a row, bracketed as `&&` is, and any one of them by its place
+abbrev pub row : Bool → List Bool → Bool
+row t [] = t
+row t (u ∷ us) = row (t && u) us
+
+pub first-of : (t : Bool) (us : List Bool) → row t us ≡ true → t ≡ true
+first-of t [] e = e
+first-of t (u ∷ us) e = left t u (first-of (t && u) us e)
+
+pub one-of : (t : Bool) (us : List Bool) → row t us ≡ true → (i : ℕ) → getD (t ∷ us) i true ≡ true
+one-of t us e zero = first-of t us e
+one-of t [] e (suc i) = refl
+one-of t (u ∷ us) e (suc zero) = right t u (first-of (t && u) us e)
+one-of t (u ∷ us) e (suc (suc i)) = one-of (t && u) us e (suc i)

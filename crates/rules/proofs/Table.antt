@@ -1,0 +1,56 @@
+-- Laws of the object table: what it allows of each setting.
+use mathlib.Core.Path.{_≡_, refl}
+use mathlib.Core.Bool.{Bool, true}
+use mathlib.Core.List.{List, [], _∷_, map}
+use Prim.Native.Nat.{ℕ, zero, suc, _<_}
+use native.Mathlib.Omega.{arith}
+use lib.Dec.{eqb, lit<}
+use lib.ListN.{getD}
+use borrow.Author.Tests.{eqb-true, leb-true}
+use Rattle.laws.proofs.Bools.{left, right, either}
+use Rattle.rules.proofs.Numbers.{to-most}
+use Rattle.rules.specs.Numbers.{between}
+use Rattle.rules.specs.declared.objects.Axis.the-variants.{X, Y}
+use Rattle.rules.specs.declared.objects.Setting.{Setting}
+use Rattle.rules.specs.declared.objects.Setting.the-variants.{Heartbeat, On, Transmission, Timer, Resolution, Operating, Preset, Offset, Differential}
+use Rattle.rules.specs.declared.settings.Settings.{Settings}
+use Rattle.rules.specs.Settings.{every, inTable, setting, settings, within}
+
+-- what holds of every element holds of the one at a place
+pub every-at : {A : Type 0} (p : A → Bool) (l : List A) → every p l ≡ true → (i : ℕ) → getD (map p l) i true ≡ true
+every-at p [] e i = refl
+every-at p (x ∷ l) e zero = left (p x) _ e
+every-at p (x ∷ l) e (suc i) = every-at p l (right (p x) _ e) i
+
+-- settings within the object table have each one in its range
+module _ (t : Settings) (e : inTable t ≡ true) where
+  by-place : (i : ℕ) → getD (map (λ s. within s (setting s t)) settings) i true ≡ true
+  unfolding inTable
+  by-place = every-at (λ s. within s (setting s t)) settings e
+
+  pub setting-in : (s : Setting) → within s (setting s t) ≡ true
+  setting-in Heartbeat = by-place 0
+  setting-in On = by-place 1
+  setting-in Transmission = by-place 2
+  setting-in Timer = by-place 3
+  setting-in Resolution = by-place 4
+  setting-in (Operating X) = by-place 5
+  setting-in (Operating Y) = by-place 6
+  setting-in (Preset X) = by-place 7
+  setting-in (Offset X) = by-place 8
+  setting-in (Differential X) = by-place 9
+  setting-in (Preset Y) = by-place 10
+  setting-in (Offset Y) = by-place 11
+  setting-in (Differential Y) = by-place 12
+
+-- the numbers of two bytes have 16 bits
+pub heartbeat-fits : (x : ℕ) → within Heartbeat x ≡ true → x < 0x10000
+heartbeat-fits x = either (eqb x 0) (between 25 65535 x) (λ e. omega (arith, eqb-true x 0 e)) (λ e. omega (arith, to-most 25 65535 x e))
+
+pub timer-fits : (x : ℕ) → within Timer x ≡ true → x < 0x10000
+timer-fits x e = omega (arith, leb-true x 65535 e)
+
+pub resolution-fits : (x : ℕ) → within Resolution x ≡ true → x < 0x10000
+resolution-fits x =
+    let is : (n : ℕ) → n < 0x10000 → eqb x n ≡ true → x < 0x10000 = λ n h e. rw (eqb-true x n e) h in
+    either _ _ (either _ _ (either _ _ (is 1 (lit< tt)) (is 10 (lit< tt))) (is 100 (lit< tt))) (is 1000 (lit< tt))
