@@ -1,6 +1,7 @@
 // The ranges of the device record: what a record holds that is not refused with 3.
 ghost use mathlib.Core.Path.{_≡_};
 ghost use Rattle.rules.specs.Settings.{inTable};
+ghost use Rattle.rules.specs.Ranges;
 ghost use Rattle.rules.specs.Ranges.{nodeOk, networkOk, savesOk, codeOk, errorsOk, elapsedOk, syncsOk, countsOk, transferOk, axisOk};
 use rules::errors::ErrorList;
 use rules::parts::PdoCounts;
@@ -10,27 +11,27 @@ use rules::settings::AxisSettings;
 use rules::settings::PdoSettings;
 use rules::settings::Settings;
 
-const MOST_NODE: u32 = 47;
+pub const MOST_NODE: u32 = 47;
 
-const STOPPED: u8 = 4;
+pub const STOPPED: u8 = 4;
 
-const OPERATIONAL: u8 = 5;
+pub const OPERATIONAL: u8 = 5;
 
-const PRE_OPERATIONAL: u8 = 127;
+pub const PRE_OPERATIONAL: u8 = 127;
 
-const MOST_BLOCKS: u16 = 128;
+pub const MOST_BLOCKS: u16 = 128;
 
-const LEAST_CODE: u16 = 0xFF00;
+pub const LEAST_CODE: u16 = 0xFF00;
 
-const MOST_CODE: u16 = 0xFF02;
+pub const MOST_CODE: u16 = 0xFF02;
 
-const AFTER_SEVEN: u8 = 2;
+pub const AFTER_SEVEN: u8 = 2;
 
-const NONE: u8 = 0;
+pub const NONE: u8 = 0;
 
-const FAULTY: u8 = 2;
+pub const FAULTY: u8 = 2;
 
-const MOST_MEASURED: i32 = 180000;
+pub const MOST_MEASURED: i32 = 180000;
 
 // What the width of a field leaves to be tested of its settings.
 pub fn in_table(s: Settings) -> bool
@@ -130,7 +131,7 @@ pub fn transfer_ok(transfer: u8) -> bool
 }
 
 pub fn inside(m: i32) -> bool
-    ensures { λ r. ⌜ r ≡ Rattle.rules.specs.Ranges.inside m ⌝ }
+    ensures { λ r. ⌜ r ≡ Ranges.inside m ⌝ }
 {
     (-MOST_MEASURED <= m) & (m <= MOST_MEASURED)
 }

@@ -1,0 +1,95 @@
+// The frames that the device sends, and the error register that an emergency carries.
+ghost use mathlib.Core.Path.{_≡_};
+ghost use mathlib.Core.Bool.{cond};
+ghost use Prim.Native.Nat.{_≤_};
+ghost use Rattle.frames.specs.None.{noFrame};
+ghost use Rattle.rules.specs.Errors;
+ghost use Rattle.rules.specs.Frames;
+ghost use Rattle.rules.specs.Frames.{bootUp, replyFrame, repliesAt};
+use rules::events::Frame;
+use rules::objects::Channel;
+
+const HEARTBEAT_AT: u16 = 0x700;
+
+const EMERGENCY_AT: u16 = 0x80;
+
+// No frame is sent: all zero.
+pub fn none() -> Frame
+    ensures { λ r. ⌜ r ≡ noFrame ⌝ }
+{
+    Frame {
+        identifier: 0,
+        length: 0,
+        bytes: [0, 0, 0, 0, 0, 0, 0, 0],
+    }
+}
+
+pub fn heartbeat(node: u8, network: u8) -> Frame
+    ensures { λ r. ⌜ r ≡ Frames.heartbeat node network ⌝ }
+{
+    Frame {
+        identifier: HEARTBEAT_AT + (node as u16),
+        length: 1,
+        bytes: [network, 0, 0, 0, 0, 0, 0, 0],
+    }
+}
+
+pub fn boot_up(node: u8) -> Frame
+    ensures { λ r. ⌜ r ≡ bootUp node ⌝ }
+{
+    heartbeat(node, 0)
+}
+
+pub fn emergency(node: u8, code: u16, register: u8) -> Frame
+    ensures { λ r. ⌜ r ≡ Frames.emergency node code register ⌝ }
+{
+    Frame {
+        identifier: EMERGENCY_AT + (node as u16),
+        length: 8,
+        bytes: [
+            numbers::low(code),
+            numbers::high(code),
+            register,
+            0,
+            0,
+            0,
+            0,
+            0,
+        ],
+    }
+}
+
+fn replies_at(channel: Channel) -> u16
+    ensures { λ r. ⌜ r ≡ repliesAt channel ⌝ }
+{
+    match channel {
+        Channel::One => 0x580,
+        Channel::Two => 0x6B0,
+    }
+}
+
+pub fn reply(channel: Channel, node: u8, bytes: [u8; 8]) -> Frame
+    ensures { λ r. ⌜ r ≡ replyFrame channel node bytes ⌝ }
+{
+    Frame {
+        identifier: replies_at(channel) + (node as u16),
+        length: 8,
+        bytes,
+    }
+}
+
+// A bit of the register, where it is set.
+fn bit(set: bool, value: u8) -> u8
+    ensures { λ r. ⌜ (r ≡ cond set value 0) × (r ≤ value) ⌝ }
+{
+    if set { value } else { 0 }
+}
+
+// Bit 7 is the journal's, bit 5 the axes', bit 0 is set with either.
+pub fn register(spoiled: u8, x: u8, y: u8) -> u8
+    ensures { λ r. ⌜ r ≡ Errors.register spoiled x y ⌝ }
+{
+    let bad = spoiled != 0;
+    let axes = (x == ranges::FAULTY) | (y == ranges::FAULTY);
+    bit(bad, 0x80) + bit(axes, 0x20) + bit(bad | axes, 1)
+}
