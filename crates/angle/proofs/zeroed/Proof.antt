@@ -1,0 +1,54 @@
+-- `zeroed` meets its contract: the offset is judged whole, and one that passes both tests fits 16 bits.
+use mathlib.Core.Path.{_≡_, _∙_, sym}
+use borrow.Author.Needs.{needs}
+use borrow.Author.Tests.{eq-eqb, ne-eqb}
+use native.Mathlib.Omega.{arith}
+use mir.Facts.{toZ-ofZ}
+use mir.Syntax.{w16, w32}
+use mir.Val.{SFits, toZ, ofZ}
+use Rattle.laws.proofs.Signed.{ok}
+use Rattle.rules.proofs.Ranges.{axis-inside, between-small}
+use Rattle.rules.specs.Angle.{offset, zeroed}
+use Rattle.angle.proofs.zeroed.Statement.{statement}
+use Rattle.angle.proofs.zeroed.Tie as tie
+
+held : (c : tie.After-offset) → toZ w32 (ofZ w32 (c .offset .result)) ≡ c .offset .result
+held c = ok w32 (c .offset .result) (c .offset .ok)
+
+wanted : (c : tie.After-offset) → let a = c .before .before .before .before .args in offset (a .x .m) (a .r) (a .operating) (a .differential) (a .preset) ≡ c .offset .result
+wanted c = sym (c .offset .ensures ∙ search needs)
+
+fitting : (c : tie.Then2) → SFits w16 (c .before .offset .result)
+fitting c =
+    let h = simp (held (c .before)) at (c .if2 .taken) in
+    record { sfits = omega (arith, between-small (c .before .offset .result) 32767 32767 (omega arith) h) }
+
+offset-requires : tie.Need-offset-requires
+offset-requires c κs =
+    let s = c .before .before .before in
+    let h = axis-inside (s .args .x) (s .pre .1) in
+    search needs
+
+cast-t11 : tie.Need-cast-t11
+cast-t11 c = simp (held (c .before)) (fitting c)
+
+returns : tie.Need-returns
+unfolding zeroed
+returns c =
+    let good = eq-eqb _ _ (c .before .before .before .if1 .taken) in
+    let fits = simp (held (c .before)) at (c .if2 .taken) in
+    simp (held (c .before), toZ-ofZ (fitting c), wanted (c .before), good, fits)
+
+returns-2 : tie.Need-returns-2
+unfolding zeroed
+returns-2 c =
+    let good = eq-eqb _ _ (c .before .before .before .if1 .taken) in
+    let fits = simp (held (c .before)) at (c .if2 .left) in
+    simp (wanted (c .before), good, fits)
+
+returns-3 : tie.Need-returns-3
+unfolding zeroed
+returns-3 c = simp (ne-eqb _ _ (c .if1 .left))
+
+pub zeroed-spec : {M : Type 1} → statement M
+zeroed-spec = tie.close (tie.spec offset-requires cast-t11 returns returns-2 returns-3)

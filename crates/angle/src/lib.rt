@@ -1,0 +1,103 @@
+// Angle and zero: what an axis shows, and the offset that a preset asks for.
+ghost use mathlib.Core.Path.{_≡_};
+ghost use mathlib.Core.Bool.{true};
+ghost use Rattle.rules.specs.declared.objects.Setting.the-variants.{Resolution};
+ghost use Rattle.rules.specs.Angle.{steps, q, nearer, sum, angle, shown, offset, zeroed};
+ghost use Rattle.rules.specs.Ranges.{inside, axisOk};
+ghost use Rattle.rules.specs.Settings.{within};
+use rules::parts::Reading;
+use rules::requests::Zeroed;
+use rules::settings::AxisSettings;
+
+const GOOD: u8 = 1;
+
+// Where the axis is not good, and where the offset does not fit.
+const STATE_ABORT: u32 = 0x08000022;
+
+const VALUE_ABORT: u32 = 0x06090030;
+
+// The whole steps of r in m, cut toward zero.
+fn steps(m: i32, r: u16) -> i32
+    requires { ⌜ within Resolution r ≡ true ⌝ }
+    ensures { λ t. ⌜ t ≡ steps m r ⌝ }
+{
+    m / (r as i32)
+}
+
+// The steps with the sign that bit 0 of 6011 gives them.
+pub fn q(m: i32, r: u16, operating: u8) -> i32
+    requires { ⌜ (within Resolution r ≡ true) × (inside m ≡ true) ⌝ }
+    ensures { λ t. ⌜ t ≡ q m r operating ⌝ }
+{
+    let whole = steps(m, r);
+    if operating % 2 == 1 { -whole } else { whole }
+}
+
+// Both offsets count where bit 1 of 6011 is set.
+fn sum(m: i32, r: u16, operating: u8, offset: i16, differential: i16) -> i32
+    requires { ⌜ (within Resolution r ≡ true) × (inside m ≡ true) ⌝ }
+    ensures { λ t. ⌜ t ≡ sum m r operating offset differential ⌝ }
+{
+    let signed = q(m, r, operating);
+    if operating / 2 % 2 == 1 {
+        signed + (offset as i32) + (differential as i32)
+    } else {
+        signed
+    }
+}
+
+// Brought into 16 bits at the nearer end; −32,768 stays free for an axis that is not good.
+fn nearer(z: i32) -> i16
+    ensures { λ t. ⌜ t ≡ nearer 32767 z ⌝ }
+{
+    if z < -32767 {
+        return -32767;
+    }
+    if 32767 < z {
+        return 32767;
+    }
+    z as i16
+}
+
+pub fn angle(m: i32, r: u16, operating: u8, offset: i16, differential: i16) -> i16
+    requires { ⌜ (within Resolution r ≡ true) × (inside m ≡ true) ⌝ }
+    ensures { λ t. ⌜ t ≡ angle m r operating offset differential ⌝ }
+{
+    nearer(sum(m, r, operating, offset, differential))
+}
+
+// What the PDO carries of an axis.
+pub fn shown(x: Reading, r: u16, s: AxisSettings) -> i16
+    requires { ⌜ (within Resolution r ≡ true) × (axisOk x ≡ true) ⌝ }
+    ensures { λ t. ⌜ t ≡ shown x r s ⌝ }
+{
+    if x.state == GOOD {
+        angle(x.m, r, s.operating, s.offset, s.differential)
+    } else {
+        -32768
+    }
+}
+
+// The offset of a preset, whole: it may not fit 16 bits.
+fn offset(m: i32, r: u16, operating: u8, differential: i16, preset: i16) -> i32
+    requires { ⌜ (within Resolution r ≡ true) × (inside m ≡ true) ⌝ }
+    ensures { λ t. ⌜ t ≡ offset m r operating differential preset ⌝ }
+{
+    let signed = q(m, r, operating);
+    (preset as i32) - signed - (differential as i32)
+}
+
+// What a preset makes of an axis.
+pub fn zeroed(x: Reading, r: u16, operating: u8, differential: i16, preset: i16) -> Zeroed
+    requires { ⌜ (within Resolution r ≡ true) × (axisOk x ≡ true) ⌝ }
+    ensures { λ t. ⌜ t ≡ zeroed x r operating differential preset ⌝ }
+{
+    if x.state == GOOD {
+        let wanted = offset(x.m, r, operating, differential, preset);
+        if (-32768 <= wanted) & (wanted <= 32767) {
+            return Zeroed::To(wanted as i16);
+        }
+        return Zeroed::Refused(VALUE_ABORT);
+    }
+    Zeroed::Refused(STATE_ABORT)
+}
