@@ -1,4 +1,5 @@
 // The types of document 01. What they mean is written in specs/, in the order of the paper.
+pub mod aborts;
 pub mod errors;
 pub mod events;
 pub mod journal;
@@ -6,3 +7,4 @@ pub mod objects;
 pub mod parts;
 pub mod requests;
 pub mod settings;
+pub mod states;

@@ -32,3 +32,11 @@ pub struct Saves {
     pub spoiled: u8,
     pub stored: Settings,
 }
+
+impl Saves {
+    pub const MOST_BLOCKS: u16 = 128;
+}
+
+impl Reading {
+    pub const FARTHEST: i32 = 180000;
+}

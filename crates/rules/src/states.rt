@@ -1,0 +1,18 @@
+// The numbers of the record's states: NMT, transfers and axes.
+pub const STOPPED: u8 = 4;
+
+pub const OPERATIONAL: u8 = 5;
+
+pub const PRE_OPERATIONAL: u8 = 127;
+
+pub const ABSENT: u8 = 0;
+
+pub const AT_START: u8 = 1;
+
+pub const AFTER_SEVEN: u8 = 2;
+
+pub const NONE: u8 = 0;
+
+pub const GOOD: u8 = 1;
+
+pub const FAULTY: u8 = 2;
