@@ -1,17 +1,30 @@
 // The frames that the device sends, and the error register that an emergency carries.
 ghost use mathlib.Core.Path.{_≡_};
-ghost use mathlib.Core.Bool.{cond};
+ghost use mathlib.Core.Bool.{true, cond};
 ghost use Prim.Native.Nat.{_≤_};
 ghost use Rattle.frames.specs.None.{noFrame};
 ghost use Rattle.rules.specs.Errors;
 ghost use Rattle.rules.specs.Frames;
-ghost use Rattle.rules.specs.Frames.{bootUp, replyFrame, repliesAt};
+ghost use Rattle.rules.specs.Frames.{bootUp, pdoFrame, replyFrame, repliesAt};
+ghost use Rattle.rules.specs.declared.objects.Setting.the-variants.{Resolution};
+ghost use Rattle.rules.specs.Angle.{shown};
+ghost use Rattle.rules.specs.Numbers.{unsigned};
+ghost use Rattle.rules.specs.Ranges.{axisOk};
+ghost use Rattle.rules.specs.Settings.{within, inTable};
 use rules::events::Frame;
 use rules::objects::Channel;
+use rules::parts::Reading;
+use rules::settings::AxisSettings;
+use rules::settings::Settings;
 
 const HEARTBEAT_AT: u16 = 0x700;
 
 const EMERGENCY_AT: u16 = 0x80;
+
+const PDO_AT: u16 = 0x180;
+
+// The most bytes of a frame.
+const MOST_BYTES: u8 = 8;
 
 // No frame is sent: all zero.
 pub fn none() -> Frame
@@ -45,12 +58,42 @@ pub fn emergency(node: u8, code: u16, register: u8) -> Frame
 {
     Frame {
         identifier: EMERGENCY_AT + (node as u16),
-        length: 8,
+        length: MOST_BYTES,
         bytes: [
             numbers::low(code),
             numbers::high(code),
             register,
             0,
+            0,
+            0,
+            0,
+            0,
+        ],
+    }
+}
+
+// What an axis shows, as the bits that the PDO carries.
+fn shown_bits(x: Reading, resolution: u16, s: AxisSettings) -> u16
+    requires { ⌜ (within Resolution resolution ≡ true) × (axisOk x ≡ true) ⌝ }
+    ensures { λ r. ⌜ r ≡ unsigned 16 (shown x resolution s) ⌝ }
+{
+    numbers::bits(angle::shown(x, resolution, s))
+}
+
+pub fn pdo(node: u8, x: Reading, y: Reading, s: Settings) -> Frame
+    requires { ⌜ (inTable s ≡ true) × ((axisOk x ≡ true) × (axisOk y ≡ true)) ⌝ }
+    ensures { λ r. ⌜ r ≡ pdoFrame node x y s ⌝ }
+{
+    let first = shown_bits(x, s.resolution, s.x);
+    let second = shown_bits(y, s.resolution, s.y);
+    Frame {
+        identifier: PDO_AT + (node as u16),
+        length: 4,
+        bytes: [
+            numbers::low(first),
+            numbers::high(first),
+            numbers::low(second),
+            numbers::high(second),
             0,
             0,
             0,
@@ -73,7 +116,7 @@ pub fn reply(channel: Channel, node: u8, bytes: [u8; 8]) -> Frame
 {
     Frame {
         identifier: replies_at(channel) + (node as u16),
-        length: 8,
+        length: MOST_BYTES,
         bytes,
     }
 }
