@@ -56,19 +56,13 @@ pub fn boot_up(node: u8) -> Frame
 pub fn emergency(node: u8, code: u16, register: u8) -> Frame
     ensures { λ r. ⌜ r ≡ Frames.emergency node code register ⌝ }
 {
+    let low = numbers::low(code);
+    let high = numbers::high(code);
+    let identifier = EMERGENCY_AT + (node as u16);
     Frame {
-        identifier: EMERGENCY_AT + (node as u16),
+        identifier,
         length: MOST_BYTES,
-        bytes: [
-            numbers::low(code),
-            numbers::high(code),
-            register,
-            0,
-            0,
-            0,
-            0,
-            0,
-        ],
+        bytes: [low, high, register, 0, 0, 0, 0, 0],
     }
 }
 
@@ -86,19 +80,15 @@ pub fn pdo(node: u8, x: Reading, y: Reading, s: Settings) -> Frame
 {
     let first = shown_bits(x, s.resolution, s.x);
     let second = shown_bits(y, s.resolution, s.y);
+    let x_low = numbers::low(first);
+    let x_high = numbers::high(first);
+    let y_low = numbers::low(second);
+    let y_high = numbers::high(second);
+    let identifier = PDO_AT + (node as u16);
     Frame {
-        identifier: PDO_AT + (node as u16),
+        identifier,
         length: 4,
-        bytes: [
-            numbers::low(first),
-            numbers::high(first),
-            numbers::low(second),
-            numbers::high(second),
-            0,
-            0,
-            0,
-            0,
-        ],
+        bytes: [x_low, x_high, y_low, y_high, 0, 0, 0, 0],
     }
 }
 
@@ -114,8 +104,9 @@ fn replies_at(channel: Channel) -> u16
 pub fn reply(channel: Channel, node: u8, bytes: [u8; 8]) -> Frame
     ensures { λ r. ⌜ r ≡ replyFrame channel node bytes ⌝ }
 {
+    let identifier = replies_at(channel) + (node as u16);
     Frame {
-        identifier: replies_at(channel) + (node as u16),
+        identifier,
         length: MOST_BYTES,
         bytes,
     }

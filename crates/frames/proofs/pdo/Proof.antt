@@ -12,9 +12,6 @@ shown-bits-requires c κs = (setting-in (c .args .s) (c .pre .0) Resolution, c .
 shown-bits-requires-2 : tie.Need-shown-bits-requires-2
 shown-bits-requires-2 c κs = (setting-in (c .before .args .s) (c .before .pre .0) Resolution, c .before .pre .1 .1)
 
-add-t8 : tie.Need-add-t8
-add-t8 c = search needs
-
 low-requires : tie.Need-low-requires
 low-requires c κs = search needs
 
@@ -26,6 +23,9 @@ low-requires-2 c κs = search needs
 
 high-requires-2 : tie.Need-high-requires-2
 high-requires-2 c κs = search needs
+
+add-identifier : tie.Need-add-identifier
+add-identifier c = search needs
 
 returns : tie.Need-returns
 unfolding pdoFrame
@@ -39,9 +39,9 @@ pdo-spec =
     (tie.spec
     shown-bits-requires
     shown-bits-requires-2
-    add-t8
     low-requires
     high-requires
     low-requires-2
     high-requires-2
+    add-identifier
     returns)
