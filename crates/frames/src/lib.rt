@@ -16,6 +16,7 @@ use rules::objects::Channel;
 use rules::parts::Reading;
 use rules::settings::AxisSettings;
 use rules::settings::Settings;
+use rules::states;
 
 const HEARTBEAT_AT: u16 = 0x700;
 
@@ -124,6 +125,6 @@ pub fn register(spoiled: u8, x: u8, y: u8) -> u8
     ensures { λ r. ⌜ r ≡ Errors.register spoiled x y ⌝ }
 {
     let bad = spoiled != 0;
-    let axes = (x == ranges::FAULTY) | (y == ranges::FAULTY);
+    let axes = (x == states::FAULTY) | (y == states::FAULTY);
     bit(bad, 0x80) + bit(axes, 0x20) + bit(bad | axes, 1)
 }
