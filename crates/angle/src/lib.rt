@@ -9,12 +9,16 @@ use rules::parts::Reading;
 use rules::requests::Zeroed;
 use rules::settings::AxisSettings;
 
+// An axis's state after a reading in range.
 const GOOD: u8 = 1;
 
-// Where the axis is not good, and where the offset does not fit.
-const STATE_ABORT: u32 = 0x08000022;
+// What the PDO carries where there is no angle.
+const NO_ANGLE: i16 = -32768;
 
-const VALUE_ABORT: u32 = 0x06090030;
+// The abort codes of a preset: the axis is not good; its offset does not fit.
+const NOT_GOOD: u32 = 0x08000022;
+
+const NOT_FITTING: u32 = 0x06090030;
 
 // The whole steps of r in m, cut toward zero.
 fn steps(m: i32, r: u16) -> i32
@@ -46,7 +50,7 @@ fn sum(m: i32, r: u16, operating: u8, offset: i16, differential: i16) -> i32
     }
 }
 
-// Brought into 16 bits at the nearer end; −32,768 stays free for an axis that is not good.
+// Brought into −32,767 to 32,767: −32,768 is no angle.
 fn nearer(z: i32) -> i16
     ensures { λ t. ⌜ t ≡ nearer 32767 z ⌝ }
 {
@@ -74,7 +78,7 @@ pub fn shown(x: Reading, r: u16, s: AxisSettings) -> i16
     if x.state == GOOD {
         angle(x.m, r, s.operating, s.offset, s.differential)
     } else {
-        -32768
+        NO_ANGLE
     }
 }
 
@@ -97,7 +101,7 @@ pub fn zeroed(x: Reading, r: u16, operating: u8, differential: i16, preset: i16)
         if (-32768 <= wanted) & (wanted <= 32767) {
             return Zeroed::To(wanted as i16);
         }
-        return Zeroed::Refused(VALUE_ABORT);
+        return Zeroed::Refused(NOT_FITTING);
     }
-    Zeroed::Refused(STATE_ABORT)
+    Zeroed::Refused(NOT_GOOD)
 }
