@@ -5,20 +5,14 @@ ghost use Rattle.rules.specs.declared.objects.Setting.the-variants.{Resolution}
 ghost use Rattle.rules.specs.Angle.{steps, q, nearer, sum, angle, shown, offset, zeroed};
 ghost use Rattle.rules.specs.Ranges.{inside, axisOk};
 ghost use Rattle.rules.specs.Settings.{within};
+use rules::aborts;
 use rules::parts::Reading;
 use rules::requests::Zeroed;
 use rules::settings::AxisSettings;
-
-// An axis's state after a reading in range.
-const GOOD: u8 = 1;
+use rules::states;
 
 // What the PDO carries where there is no angle.
 const NO_ANGLE: i16 = -32768;
-
-// The abort codes of a preset: the axis is not good; its offset does not fit.
-const NOT_GOOD: u32 = 0x08000022;
-
-const NOT_FITTING: u32 = 0x06090030;
 
 // The whole steps of r in m, cut toward zero.
 fn steps(m: i32, r: u16) -> i32
@@ -63,6 +57,7 @@ fn nearer(z: i32) -> i16
     z as i16
 }
 
+// The angle of a last good reading.
 pub fn angle(m: i32, r: u16, operating: u8, offset: i16, differential: i16) -> i16
     requires { ⌜ (within Resolution r ≡ true) × (inside m ≡ true) ⌝ }
     ensures { λ t. ⌜ t ≡ angle m r operating offset differential ⌝ }
@@ -75,7 +70,7 @@ pub fn shown(x: Reading, r: u16, s: AxisSettings) -> i16
     requires { ⌜ (within Resolution r ≡ true) × (axisOk x ≡ true) ⌝ }
     ensures { λ t. ⌜ t ≡ shown x r s ⌝ }
 {
-    if x.state == GOOD {
+    if x.state == states::GOOD {
         angle(x.m, r, s.operating, s.offset, s.differential)
     } else {
         NO_ANGLE
@@ -96,12 +91,12 @@ pub fn zeroed(x: Reading, r: u16, operating: u8, differential: i16, preset: i16)
     requires { ⌜ (within Resolution r ≡ true) × (axisOk x ≡ true) ⌝ }
     ensures { λ t. ⌜ t ≡ zeroed x r operating differential preset ⌝ }
 {
-    if x.state == GOOD {
-        let wanted = offset(x.m, r, operating, differential, preset);
-        if (-32768 <= wanted) & (wanted <= 32767) {
-            return Zeroed::To(wanted as i16);
-        }
-        return Zeroed::Refused(NOT_FITTING);
+    if x.state != states::GOOD {
+        return Zeroed::Refused(aborts::AXIS_NOT_GOOD);
     }
-    Zeroed::Refused(NOT_GOOD)
+    let wanted = offset(x.m, r, operating, differential, preset);
+    if (-32768 <= wanted) & (wanted <= 32767) {
+        return Zeroed::To(wanted as i16);
+    }
+    Zeroed::Refused(aborts::WRONG_VALUE)
 }

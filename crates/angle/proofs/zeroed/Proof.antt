@@ -15,13 +15,18 @@ use Rattle.angle.proofs.zeroed.Tie as tie
 held : (c : tie.After-offset) → toZ w32 (ofZ w32 (c .offset .result)) ≡ c .offset .result
 held c = ok w32 (c .offset .result) (c .offset .ok)
 
-wanted : (c : tie.After-offset) → let a = c .before .before .before .before .args in offset (a .x .m) (a .r) (a .operating) (a .differential) (a .preset) ≡ c .offset .result
+wanted : (c : tie.After-offset) → let a = c .before .before .before .before .args in
+    offset (a .x .m) (a .r) (a .operating) (a .differential) (a .preset) ≡ c .offset .result
 wanted c = sym (c .offset .ensures ∙ search needs)
 
 fitting : (c : tie.Then2) → SFits w16 (c .before .offset .result)
 fitting c =
-    let h = simp (held (c .before)) at (c .if2 .taken) in
-    record { sfits = omega (arith, between-small (c .before .offset .result) 32767 32767 (omega arith) h) }
+    let passed = simp (held (c .before)) at (c .if2 .taken) in
+    record { sfits = omega (arith, between-small (c .before .offset .result) 32767 32767 (omega arith) passed) }
+
+returns : tie.Need-returns
+unfolding zeroed
+returns c = simp (ne-eqb _ _ (c .if1 .taken))
 
 offset-requires : tie.Need-offset-requires
 offset-requires c κs =
@@ -29,26 +34,22 @@ offset-requires c κs =
     let h = axis-inside (s .args .x) (s .pre .1) in
     search needs
 
-cast-t11 : tie.Need-cast-t11
-cast-t11 c = simp (held (c .before)) (fitting c)
-
-returns : tie.Need-returns
-unfolding zeroed
-returns c =
-    let good = eq-eqb _ _ (c .before .before .before .if1 .taken) in
-    let fits = simp (held (c .before)) at (c .if2 .taken) in
-    simp (held (c .before), toZ-ofZ (fitting c), wanted (c .before), good, fits)
+cast-t10 : tie.Need-cast-t10
+cast-t10 c = simp (held (c .before)) (fitting c)
 
 returns-2 : tie.Need-returns-2
 unfolding zeroed
 returns-2 c =
-    let good = eq-eqb _ _ (c .before .before .before .if1 .taken) in
-    let fits = simp (held (c .before)) at (c .if2 .left) in
-    simp (wanted (c .before), good, fits)
+    let good = eq-eqb _ _ (c .before .before .before .if1 .left) in
+    let passed = simp (held (c .before)) at (c .if2 .taken) in
+    simp (held (c .before), toZ-ofZ (fitting c), wanted (c .before), good, passed)
 
 returns-3 : tie.Need-returns-3
 unfolding zeroed
-returns-3 c = simp (ne-eqb _ _ (c .if1 .left))
+returns-3 c =
+    let good = eq-eqb _ _ (c .before .before .before .if1 .left) in
+    let failed = simp (held (c .before)) at (c .if2 .left) in
+    simp (wanted (c .before), good, failed)
 
 pub zeroed-spec : {M : Type 1} → statement M
-zeroed-spec = tie.close (tie.spec offset-requires cast-t11 returns returns-2 returns-3)
+zeroed-spec = tie.close (tie.spec returns offset-requires cast-t10 returns-2 returns-3)
