@@ -138,7 +138,7 @@ pub fn object_at(index: u16, subindex: u8) -> Found
 }
 
 // The length in bytes, and whether it is written.
-fn fixed_size(f: Fixed) -> u8
+pub fn fixed_size(f: Fixed) -> u8
     ensures { λ r. ⌜ r ≡ fixedRow f .size ⌝ }
 {
     match f {
@@ -163,7 +163,7 @@ fn fixed_size(f: Fixed) -> u8
     }
 }
 
-fn setting_size(s: Setting) -> u8
+pub fn setting_size(s: Setting) -> u8
     ensures { λ r. ⌜ r ≡ settingRow s .size ⌝ }
 {
     match s {

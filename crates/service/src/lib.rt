@@ -1,0 +1,137 @@
+// Service channels: the outcome of a request.
+use rules::aborts;
+use rules::objects::Channel;
+use rules::objects::Found;
+use rules::requests::Change;
+use rules::requests::Command;
+use rules::requests::Got;
+use rules::requests::Outcome;
+use rules::states;
+use view::View;
+use writes::Written;
+ghost use mathlib.Core.Path.{_≡_};
+ghost use Rattle.rules.specs.declared.requests.Command.the-variants.{Write, Read};
+ghost use Rattle.rules.specs.declared.requests.Change.the-variants.{Keep};
+ghost use Rattle.rules.specs.Objects.{objectAt};
+ghost use Rattle.rules.specs.Requests;
+ghost use Rattle.rules.specs.Service;
+ghost use Rattle.rules.specs.Service.{replied, onSegment, onCommand};
+ghost use Rattle.view.specs.Seen.{seen, Sound};
+ghost use Rattle.service.specs.Missing.{missingCode};
+
+// A reply with no change.
+fn said(bytes: [u8; 8], transfer: u8) -> Outcome
+    ensures { λ r. ⌜ r ≡ replied bytes transfer Keep ⌝ }
+{
+    Outcome {
+        replies: true,
+        bytes,
+        transfer,
+        change: Change::Keep,
+    }
+}
+
+fn silent(transfer: u8) -> Outcome
+    ensures { λ r. ⌜ r ≡ Service.silent transfer ⌝ }
+{
+    Outcome {
+        replies: false,
+        bytes: [0, 0, 0, 0, 0, 0, 0, 0],
+        transfer,
+        change: Change::Keep,
+    }
+}
+
+// An abort ends the transfer.
+fn refuse(request: [u8; 8], code: u32) -> Outcome
+    ensures { λ r. ⌜ r ≡ Service.refuse request code ⌝ }
+{
+    said(requests::reply(0x80, request, code), states::ABSENT)
+}
+
+fn segment(toggle: u8, transfer: u8) -> Outcome
+    ensures { λ r. ⌜ r ≡ onSegment toggle transfer ⌝ }
+{
+    if transfer == states::ABSENT {
+        return said(requests::no_transfer(), states::ABSENT);
+    }
+    if transfer == states::AT_START {
+        if toggle == 0 {
+            return said(requests::first_segment(), states::AFTER_SEVEN);
+        }
+        return said(requests::wrong_toggle(), states::ABSENT);
+    }
+    if toggle == 1 {
+        return said(requests::last_segment(), states::ABSENT);
+    }
+    said(requests::wrong_toggle(), states::ABSENT)
+}
+
+// Why no object is there; 0 where one is.
+fn missing_code(found: Found) -> u32
+    ensures { λ r. ⌜ r ≡ missingCode found ⌝ }
+{
+    match found {
+        Found::At(_) => 0,
+        Found::NoObject => aborts::NO_OBJECT,
+        Found::NoSubindex => aborts::NO_SUBINDEX,
+    }
+}
+
+fn read(channel: Channel, request: [u8; 8], v: View) -> Outcome
+    requires { ⌜ Sound v ⌝ }
+    ensures { λ r. ⌜ r ≡ onCommand channel request Read (objectAt (Requests.index request) (Requests.subindex request)) (seen v) ⌝ }
+{
+    let found = objects::object_at(requests::index(request), requests::subindex(request));
+    let Found::At(o) = found else {
+        return refuse(request, missing_code(found));
+    };
+    match reads::read(o, v) {
+        Got::Number(size, n) => said(
+            requests::reply(requests::read_first(size), request, n),
+            states::ABSENT,
+        ),
+        Got::Text => said(requests::reply(0x41, request, 10), states::AT_START),
+        Got::Missing(code) => refuse(request, code),
+    }
+}
+
+fn write(channel: Channel, request: [u8; 8], given: u8, v: View) -> Outcome
+    requires { ⌜ Sound v ⌝ }
+    ensures { λ r. ⌜ r ≡ onCommand channel request (Write given) (objectAt (Requests.index request) (Requests.subindex request)) (seen v) ⌝ }
+{
+    let found = objects::object_at(requests::index(request), requests::subindex(request));
+    let Found::At(o) = found else {
+        return refuse(request, missing_code(found));
+    };
+    let value = requests::value(objects::size(o), request);
+    let written = writes::write(channel, given, o, value, v);
+    match written {
+        Written::Changes(change) => Outcome {
+            replies: true,
+            bytes: requests::reply(0x60, request, 0),
+            transfer: states::ABSENT,
+            change,
+        },
+        Written::Refused(code) => refuse(request, code),
+    }
+}
+
+// What a request brings about, served in Pre-Operational and Operational.
+pub fn outcome(channel: Channel, request: [u8; 8], v: View) -> Outcome
+    requires { ⌜ Sound v ⌝ }
+    ensures { λ r. ⌜ r ≡ Service.outcome channel request (seen v) ⌝ }
+{
+    let network = v.network;
+    if (network != states::PRE_OPERATIONAL) & (network != states::OPERATIONAL) {
+        return silent(v.transfer);
+    }
+    let command = requests::command(request[0]);
+    match command {
+        Command::Write(given) => write(channel, request, given, v),
+        Command::Read => read(channel, request, v),
+        Command::Segment(toggle) => segment(toggle, v.transfer),
+        Command::End => silent(states::ABSENT),
+        Command::Unknown => refuse(request, aborts::UNKNOWN_COMMAND),
+    }
+}

@@ -1,0 +1,67 @@
+// Elapsed and SYNC counts: when they run, when they reach their period, and what they are then.
+use rules::settings::PdoSettings;
+use rules::states;
+ghost use mathlib.Core.Path.{_≡_};
+ghost use Rattle.rules.specs.Time;
+ghost use Rattle.timers.specs.Runs.{sendingOf, timerRunsOf, syncCountsOf, syncDueOf, syncsAfterOf};
+
+// The count reaches its period with a tick of so many milliseconds.
+pub fn reaches(runs: bool, period: u16, elapsed: u16, ms: u16) -> bool
+    ensures { λ r. ⌜ r ≡ Time.reaches runs period elapsed ms ⌝ }
+{
+    runs & (period != 0) & ((period as u32) <= (elapsed as u32) + (ms as u32))
+}
+
+// The count after the tick; what goes beyond the period is lost.
+pub fn elapsed_after(runs: bool, period: u16, elapsed: u16, ms: u16) -> u16
+    ensures { λ r. ⌜ r ≡ Time.elapsedAfter runs period elapsed ms ⌝ }
+{
+    if runs & (period != 0) {
+        let sum = (elapsed as u32) + (ms as u32);
+        if (period as u32) <= sum {
+            0
+        } else {
+            sum as u16
+        }
+    } else {
+        elapsed
+    }
+}
+
+// The PDO is sent in Operational where it is on.
+fn sending(network: u8, s: PdoSettings) -> bool
+    ensures { λ r. ⌜ r ≡ sendingOf network s ⌝ }
+{
+    (network == states::OPERATIONAL) & (s.on == 1)
+}
+
+pub fn timer_runs(network: u8, s: PdoSettings) -> bool
+    ensures { λ r. ⌜ r ≡ timerRunsOf network s ⌝ }
+{
+    sending(network, s) & (PdoSettings::LEAST_TIMED <= s.transmission)
+}
+
+pub fn sync_counts(network: u8, s: PdoSettings) -> bool
+    ensures { λ r. ⌜ r ≡ syncCountsOf network s ⌝ }
+{
+    sending(network, s)
+        & (PdoSettings::LEAST_SYNCHRONOUS <= s.transmission)
+        & (s.transmission <= PdoSettings::MOST_SYNCHRONOUS)
+}
+
+// The SYNC that is counted is the last of its type.
+pub fn sync_due(transmission: u8, syncs: u8) -> bool
+    ensures { λ r. ⌜ r ≡ syncDueOf transmission syncs ⌝ }
+{
+    (transmission as u16) <= (syncs as u16) + 1
+}
+
+pub fn syncs_after(transmission: u8, syncs: u8) -> u8
+    ensures { λ r. ⌜ r ≡ syncsAfterOf transmission syncs ⌝ }
+{
+    if sync_due(transmission, syncs) {
+        0
+    } else {
+        syncs + 1
+    }
+}
