@@ -126,7 +126,7 @@ fn read(request: [u8; 8], v: View) -> Outcome
     read_outcome(request, reads::read(o, v))
 }
 
-// A write is of the object's own length.
+// The value is taken in the object's own length; the checks judge the length that is given.
 fn write(channel: Channel, request: [u8; 8], given: u8, v: View) -> Outcome
     requires { ⌜ Sound v ⌝ }
     ensures { λ r. ⌜ r ≡ onCommand channel request (Write given) (objectAt (Requests.index request) (Requests.subindex request)) (seen v) ⌝ }
