@@ -1,17 +1,31 @@
 // The frames that the device sends, and the error register that an emergency carries.
 ghost use mathlib.Core.Path.{_≡_};
-ghost use mathlib.Core.Bool.{cond};
+ghost use mathlib.Core.Bool.{true, cond};
 ghost use Prim.Native.Nat.{_≤_};
 ghost use Rattle.frames.specs.None.{noFrame};
 ghost use Rattle.rules.specs.Errors;
 ghost use Rattle.rules.specs.Frames;
-ghost use Rattle.rules.specs.Frames.{bootUp, replyFrame, repliesAt};
+ghost use Rattle.rules.specs.Frames.{bootUp, pdoFrame, replyFrame, repliesAt};
+ghost use Rattle.rules.specs.declared.objects.Setting.the-variants.{Resolution};
+ghost use Rattle.rules.specs.Angle.{shown};
+ghost use Rattle.rules.specs.Numbers.{unsigned};
+ghost use Rattle.rules.specs.Ranges.{axisOk};
+ghost use Rattle.rules.specs.Settings.{within, inTable};
 use rules::events::Frame;
 use rules::objects::Channel;
+use rules::parts::Reading;
+use rules::settings::AxisSettings;
+use rules::settings::Settings;
+use rules::states;
 
 const HEARTBEAT_AT: u16 = 0x700;
 
 const EMERGENCY_AT: u16 = 0x80;
+
+const PDO_AT: u16 = 0x180;
+
+// The most bytes of a frame.
+const MOST_BYTES: u8 = 8;
 
 // No frame is sent: all zero.
 pub fn none() -> Frame
@@ -43,19 +57,39 @@ pub fn boot_up(node: u8) -> Frame
 pub fn emergency(node: u8, code: u16, register: u8) -> Frame
     ensures { λ r. ⌜ r ≡ Frames.emergency node code register ⌝ }
 {
+    let low = numbers::low(code);
+    let high = numbers::high(code);
+    let identifier = EMERGENCY_AT + (node as u16);
     Frame {
-        identifier: EMERGENCY_AT + (node as u16),
-        length: 8,
-        bytes: [
-            numbers::low(code),
-            numbers::high(code),
-            register,
-            0,
-            0,
-            0,
-            0,
-            0,
-        ],
+        identifier,
+        length: MOST_BYTES,
+        bytes: [low, high, register, 0, 0, 0, 0, 0],
+    }
+}
+
+// What an axis shows, as the bits that the PDO carries.
+fn shown_bits(x: Reading, resolution: u16, s: AxisSettings) -> u16
+    requires { ⌜ (within Resolution resolution ≡ true) × (axisOk x ≡ true) ⌝ }
+    ensures { λ r. ⌜ r ≡ unsigned 16 (shown x resolution s) ⌝ }
+{
+    numbers::bits(angle::shown(x, resolution, s))
+}
+
+pub fn pdo(node: u8, x: Reading, y: Reading, s: Settings) -> Frame
+    requires { ⌜ (inTable s ≡ true) × ((axisOk x ≡ true) × (axisOk y ≡ true)) ⌝ }
+    ensures { λ r. ⌜ r ≡ pdoFrame node x y s ⌝ }
+{
+    let first = shown_bits(x, s.resolution, s.x);
+    let second = shown_bits(y, s.resolution, s.y);
+    let x_low = numbers::low(first);
+    let x_high = numbers::high(first);
+    let y_low = numbers::low(second);
+    let y_high = numbers::high(second);
+    let identifier = PDO_AT + (node as u16);
+    Frame {
+        identifier,
+        length: 4,
+        bytes: [x_low, x_high, y_low, y_high, 0, 0, 0, 0],
     }
 }
 
@@ -71,9 +105,10 @@ fn replies_at(channel: Channel) -> u16
 pub fn reply(channel: Channel, node: u8, bytes: [u8; 8]) -> Frame
     ensures { λ r. ⌜ r ≡ replyFrame channel node bytes ⌝ }
 {
+    let identifier = replies_at(channel) + (node as u16);
     Frame {
-        identifier: replies_at(channel) + (node as u16),
-        length: 8,
+        identifier,
+        length: MOST_BYTES,
         bytes,
     }
 }
@@ -90,6 +125,6 @@ pub fn register(spoiled: u8, x: u8, y: u8) -> u8
     ensures { λ r. ⌜ r ≡ Errors.register spoiled x y ⌝ }
 {
     let bad = spoiled != 0;
-    let axes = (x == ranges::FAULTY) | (y == ranges::FAULTY);
+    let axes = (x == states::FAULTY) | (y == states::FAULTY);
     bit(bad, 0x80) + bit(axes, 0x20) + bit(bad | axes, 1)
 }

@@ -10,28 +10,13 @@ use rules::parts::Saves;
 use rules::settings::AxisSettings;
 use rules::settings::PdoSettings;
 use rules::settings::Settings;
+use rules::states;
 
-pub const MOST_NODE: u32 = 47;
+const MOST_NODE: u32 = 47;
 
-pub const STOPPED: u8 = 4;
+const LEAST_CODE: u16 = 0xFF00;
 
-pub const OPERATIONAL: u8 = 5;
-
-pub const PRE_OPERATIONAL: u8 = 127;
-
-pub const MOST_BLOCKS: u16 = 128;
-
-pub const LEAST_CODE: u16 = 0xFF00;
-
-pub const MOST_CODE: u16 = 0xFF02;
-
-pub const AFTER_SEVEN: u8 = 2;
-
-pub const NONE: u8 = 0;
-
-pub const FAULTY: u8 = 2;
-
-pub const MOST_MEASURED: i32 = 180000;
+const MOST_CODE: u16 = 0xFF02;
 
 // What the width of a field leaves to be tested of its settings.
 pub fn in_table(s: Settings) -> bool
@@ -59,14 +44,16 @@ pub fn node_ok(node: u32) -> bool
 pub fn network_ok(network: u8) -> bool
     ensures { λ r. ⌜ r ≡ networkOk network ⌝ }
 {
-    (network == STOPPED) | (network == OPERATIONAL) | (network == PRE_OPERATIONAL)
+    (network == states::STOPPED)
+        | (network == states::OPERATIONAL)
+        | (network == states::PRE_OPERATIONAL)
 }
 
 pub fn saves_ok(s: Saves) -> bool
     ensures { λ r. ⌜ r ≡ savesOk s ⌝ }
 {
     (1 <= s.blocks)
-        & (s.blocks <= MOST_BLOCKS)
+        & (s.blocks <= Saves::MOST_BLOCKS)
         & (s.filled <= s.blocks)
         & (s.spoiled <= 1)
         & in_table(s.stored)
@@ -127,17 +114,19 @@ pub fn counts_ok(s: PdoSettings, c: PdoCounts) -> bool
 pub fn transfer_ok(transfer: u8) -> bool
     ensures { λ r. ⌜ r ≡ transferOk transfer ⌝ }
 {
-    transfer <= AFTER_SEVEN
+    transfer <= states::AFTER_SEVEN
 }
 
 pub fn inside(m: i32) -> bool
     ensures { λ r. ⌜ r ≡ Ranges.inside m ⌝ }
 {
-    (-MOST_MEASURED <= m) & (m <= MOST_MEASURED)
+    (-Reading::FARTHEST <= m) & (m <= Reading::FARTHEST)
 }
 
 pub fn axis_ok(x: Reading) -> bool
     ensures { λ r. ⌜ r ≡ axisOk x ⌝ }
 {
-    (x.state <= FAULTY) & inside(x.m) & ((x.state != NONE) | ((0 <= x.m) & (x.m <= 0)))
+    (x.state <= states::FAULTY)
+        & inside(x.m)
+        & ((x.state != states::NONE) | ((0 <= x.m) & (x.m <= 0)))
 }

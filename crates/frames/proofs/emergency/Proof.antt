@@ -3,17 +3,17 @@ use borrow.Author.Needs.{needs}
 use Rattle.frames.proofs.emergency.Statement.{statement}
 use Rattle.frames.proofs.emergency.Tie as tie
 
-add-t5 : tie.Need-add-t5
-add-t5 c = search needs
-
 low-requires : tie.Need-low-requires
 low-requires c κs = search needs
 
 high-requires : tie.Need-high-requires
 high-requires c κs = search needs
 
+add-identifier : tie.Need-add-identifier
+add-identifier c = search needs
+
 returns : tie.Need-returns
 returns c = simp (c .before .low .ensures, c .high .ensures)
 
 pub emergency-spec : {M : Type 1} → statement M
-emergency-spec = tie.close (tie.spec add-t5 low-requires high-requires returns)
+emergency-spec = tie.close (tie.spec low-requires high-requires add-identifier returns)

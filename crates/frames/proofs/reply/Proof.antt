@@ -18,8 +18,8 @@ small Two = omega arith
 replies-at-requires : tie.Need-replies-at-requires
 replies-at-requires c κs = search needs
 
-add-t6 : tie.Need-add-t6
-add-t6 c = omega (arith, small (c .before .args .channel), c .replies-at .ensures)
+add-identifier : tie.Need-add-identifier
+add-identifier c = omega (arith, small (c .before .args .channel), c .replies-at .ensures)
 
 returns : tie.Need-returns
 returns c =
@@ -27,4 +27,4 @@ returns c =
     simp (c .replies-at .ensures, n, take-at)
 
 pub reply-spec : {M : Type 1} → statement M
-reply-spec = tie.close (tie.spec replies-at-requires add-t6 returns)
+reply-spec = tie.close (tie.spec replies-at-requires add-identifier returns)
