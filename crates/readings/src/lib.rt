@@ -1,4 +1,4 @@
-// A reading of an axis: the axis after it, the error list, and the emergency that it sends.
+// A reading of an axis: the axis after it, whether that is a new fault, the code of the fault, and the error list.
 use rules::errors::ErrorList;
 use rules::objects::Axis;
 use rules::parts::Reading;

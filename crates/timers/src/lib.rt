@@ -2,7 +2,6 @@
 use rules::settings::PdoSettings;
 use rules::states;
 ghost use mathlib.Core.Path.{_≡_};
-ghost use Rattle.rules.specs.Settings.{synchronous, timed};
 ghost use Rattle.rules.specs.Time;
 ghost use Rattle.timers.specs.Runs.{sendingOf, timerRunsOf, syncCountsOf, syncDueOf, syncsAfterOf};
 
@@ -20,11 +19,13 @@ pub fn elapsed_after(runs: bool, period: u16, elapsed: u16, ms: u16) -> u16
     if runs & (period != 0) {
         let sum = (elapsed as u32) + (ms as u32);
         if (period as u32) <= sum {
-            return 0;
+            0
+        } else {
+            sum as u16
         }
-        return sum as u16;
+    } else {
+        elapsed
     }
-    elapsed
 }
 
 // The PDO is sent in Operational where it is on.
