@@ -26,9 +26,9 @@ pub parts : (u : State) → inRange u ≡ true → InRange u
 unfolding inRange
 parts u e =
     let rest : List Bool =
-      networkOk (u .network) ∷ savesOk (u .saves) ∷ inTable (u .running) ∷ errorsOk (u .errors) ∷
-      elapsedOk (u .running .heartbeat) (u .heartbeat) ∷ countsOk (u .running .pdo) (u .pdo) ∷
-      transferOk (u .one) ∷ transferOk (u .two) ∷ axisOk (u .x) ∷ axisOk (u .y) ∷ [] in
+    networkOk (u .network) ∷ savesOk (u .saves) ∷ inTable (u .running) ∷ errorsOk (u .errors) ∷
+    elapsedOk (u .running .heartbeat) (u .heartbeat) ∷ countsOk (u .running .pdo) (u .pdo) ∷
+    transferOk (u .one) ∷ transferOk (u .two) ∷ axisOk (u .x) ∷ axisOk (u .y) ∷ [] in
     let at : (i : ℕ) → getD (nodeOk (u .node) ∷ rest) i true ≡ true = one-of (nodeOk (u .node)) rest e in
     record {
       node = at 0;

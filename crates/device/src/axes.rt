@@ -77,9 +77,6 @@ impl Device {
         let list = readings::listed(fault, code, self.errors);
         let device = self.with_reading(axis, readings::measured(m, old), list);
         let sent = device.alarmed(fault, code, before);
-        Moved {
-            device,
-            sent,
-        }
+        Moved { device, sent }
     }
 }

@@ -84,10 +84,7 @@ impl Device {
             y: no_reading(),
         };
         let sent = device.booted();
-        Moved {
-            device,
-            sent,
-        }
+        Moved { device, sent }
     }
 
     // 82h: 1017 and 1800 from the stored settings.
@@ -105,10 +102,7 @@ impl Device {
         self.one = states::ABSENT;
         self.two = states::ABSENT;
         let sent = Sent::one(frames::boot_up(self.node));
-        Moved {
-            device: self,
-            sent,
-        }
+        Moved { device: self, sent }
     }
 
     fn enter(mut self, network: u8, counts: PdoCounts) -> Moved

@@ -54,10 +54,7 @@ impl Device {
             syncs: self.pdo.syncs,
         };
         self.pdo = counts;
-        Moved {
-            device: self,
-            sent,
-        }
+        Moved { device: self, sent }
     }
 
     // The PDO where the SYNC was the last of its type.
@@ -83,10 +80,7 @@ impl Device {
                 syncs: timers::syncs_after(transmission, self.pdo.syncs),
             };
             self.pdo = counts;
-            return Moved {
-                device: self,
-                sent,
-            };
+            return Moved { device: self, sent };
         }
         Moved {
             device: self,

@@ -75,8 +75,8 @@ together : (d : Device) (a : Axis) (m : ℤ) (old x : Reading) (before code : �
     → x ≡ measured m old
     → next ≡ held (withReading a x list (alone d))
     → sent ≡ sentOf (ifNotStopped (next .network)
-      (cond fault (emergency (next .node) code (registerOf (alone next)) ∷ [])
-      (cond (not (eqb before 0) && eqb (registerOf (alone next)) 0) (emergency (next .node) 0 (registerOf (alone next)) ∷ []) [])))
+    (cond fault (emergency (next .node) code (registerOf (alone next)) ∷ [])
+    (cond (not (eqb before 0) && eqb (registerOf (alone next)) 0) (emergency (next .node) 0 (registerOf (alone next)) ∷ []) [])))
     → _≡_ {A = Moved} (record { device = next; sent = sent }) (movedOf (onReading a m (alone d)))
 unfolding onReading
 together d X m old x before code fault list next sent e₁ e₂ e₃ e₄ e₅ e₆ e₇ e₈ = rw (e₈, e₇, e₆, e₅, e₄, e₃, e₂, e₁)
