@@ -5,7 +5,7 @@ ghost use Prim.Native.Nat.{_≤_};
 ghost use Rattle.frames.specs.None.{noFrame};
 ghost use Rattle.rules.specs.Errors;
 ghost use Rattle.rules.specs.Frames;
-ghost use Rattle.rules.specs.Frames.{bootUp, pdoFrame, replyFrame, repliesAt};
+ghost use Rattle.rules.specs.Frames.{bootUp, pdoFrame, replyFrame, requestsAt, repliesAt};
 ghost use Rattle.rules.specs.declared.objects.Setting.the-variants.{Resolution};
 ghost use Rattle.rules.specs.Angle.{shown};
 ghost use Rattle.rules.specs.Numbers.{unsigned};
@@ -93,7 +93,17 @@ pub fn pdo(node: u8, x: Reading, y: Reading, s: Settings) -> Frame
     }
 }
 
-fn replies_at(channel: Channel) -> u16
+// Where a channel's requests come and its replies go.
+pub fn requests_at(channel: Channel) -> u16
+    ensures { λ r. ⌜ r ≡ requestsAt channel ⌝ }
+{
+    match channel {
+        Channel::One => 0x600,
+        Channel::Two => 0x680,
+    }
+}
+
+pub fn replies_at(channel: Channel) -> u16
     ensures { λ r. ⌜ r ≡ repliesAt channel ⌝ }
 {
     match channel {

@@ -11,6 +11,7 @@ ghost use Rattle.readings.specs.Listed.{listedOf};
 pub fn measured(m: i32, x: Reading) -> Reading
     ensures { λ r. ⌜ r ≡ Readings.measured m x ⌝ }
 {
+    let last = x.m;
     if ranges::inside(m) {
         Reading {
             state: states::GOOD,
@@ -19,7 +20,7 @@ pub fn measured(m: i32, x: Reading) -> Reading
     } else {
         Reading {
             state: states::FAULTY,
-            m: x.m,
+            m: last,
         }
     }
 }

@@ -2,8 +2,9 @@
 use rules::aborts;
 use rules::requests::Command;
 ghost use mathlib.Core.Path.{_≡_};
-ghost use Prim.Native.Nat.{_%_, _^_};
-ghost use Rattle.rules.specs.Numbers.{fourAt};
+ghost use mathlib.Core.List.{_∷_};
+ghost use Prim.Native.Nat.{_+_, _*_, _%_, _^_};
+ghost use Rattle.rules.specs.Numbers.{four, fourAt};
 ghost use Rattle.rules.specs.Requests.{commandOf, index as indexOf, subindex as subindexOf};
 ghost use Rattle.rules.specs.Replies.{reply as replyOf, readFirst, firstSegment, lastSegment, wrongToggle, noTransfer};
 
@@ -24,10 +25,17 @@ pub fn command(first: u8) -> Command
     }
 }
 
+// The number in two bytes, the low one first.
+fn two(low: u8, high: u8) -> u16
+    ensures { λ r. ⌜ r ≡ low + 256 * high ⌝ }
+{
+    (low as u16) + 256 * (high as u16)
+}
+
 pub fn index(request: [u8; 8]) -> u16
     ensures { λ r. ⌜ r ≡ indexOf request ⌝ }
 {
-    (request[1] as u16) + 256 * (request[2] as u16)
+    two(request[1], request[2])
 }
 
 pub fn subindex(request: [u8; 8]) -> u8
@@ -36,31 +44,44 @@ pub fn subindex(request: [u8; 8]) -> u8
     request[3]
 }
 
+// The last four bytes as a number.
+fn whole(request: [u8; 8]) -> u32
+    ensures { λ r. ⌜ r ≡ fourAt request 4 ⌝ }
+{
+    let low = two(request[4], request[5]) as u32;
+    let high = two(request[6], request[7]) as u32;
+    low + 65536 * high
+}
+
+// A number's lowest bytes, so many.
+fn lowest(size: u8, n: u32) -> u32
+    ensures { λ r. ⌜ r ≡ n % 256 ^ size ⌝ }
+{
+    match size {
+        0 => 0,
+        1 => n % 256,
+        2 => n % 65536,
+        3 => n % 16777216,
+        _ => n,
+    }
+}
+
 // The value that is written, in a length of so many bytes.
 pub fn value(size: u8, request: [u8; 8]) -> u32
     ensures { λ r. ⌜ r ≡ fourAt request 4 % 256 ^ size ⌝ }
 {
-    let low = (request[4] as u32) + 256 * (request[5] as u32);
-    let high = (request[6] as u32) + 256 * (request[7] as u32);
-    let whole = low + 65536 * high;
-    match size {
-        0 => 0,
-        1 => whole % 256,
-        2 => whole % 65536,
-        3 => whole % 16777216,
-        _ => whole,
-    }
+    lowest(size, whole(request))
 }
 
-// The first byte, the request's next three, and a number.
-pub fn reply(first: u8, request: [u8; 8], n: u32) -> [u8; 8]
-    ensures { λ r. ⌜ r ≡ replyOf first request n ⌝ }
+// The first byte, the next three of the request that it replies to, and a number.
+pub fn reply(first: u8, to: [u8; 8], n: u32) -> [u8; 8]
+    ensures { λ r. ⌜ r ≡ replyOf first to n ⌝ }
 {
     [
         first,
-        request[1],
-        request[2],
-        request[3],
+        to[1],
+        to[2],
+        to[3],
         (n % 256) as u8,
         (n / 256 % 256) as u8,
         (n / 65536 % 256) as u8,
@@ -79,7 +100,7 @@ pub fn read_first(size: u8) -> u8
     }
 }
 
-// The two segments of the string, and what a segment gets that cannot be had.
+// The two segments of the string.
 pub fn first_segment() -> [u8; 8]
     ensures { λ r. ⌜ r ≡ firstSegment ⌝ }
 {
@@ -92,14 +113,21 @@ pub fn last_segment() -> [u8; 8]
     [0x19, b'L', b'T', b'2', 0, 0, 0, 0]
 }
 
+// What a segment gets that cannot be had: an abort that names an index, its low byte first, and subindex 0.
+fn refused_segment(low: u8, high: u8, code: u32) -> [u8; 8]
+    ensures { λ r. ⌜ r ≡ 0x80 ∷ low ∷ high ∷ 0 ∷ four code ⌝ }
+{
+    reply(0x80, [0, low, high, 0, 0, 0, 0, 0], code)
+}
+
 pub fn wrong_toggle() -> [u8; 8]
     ensures { λ r. ⌜ r ≡ wrongToggle ⌝ }
 {
-    reply(0x80, [0, 0x08, 0x10, 0, 0, 0, 0, 0], aborts::WRONG_TOGGLE)
+    refused_segment(0x08, 0x10, aborts::WRONG_TOGGLE)
 }
 
 pub fn no_transfer() -> [u8; 8]
     ensures { λ r. ⌜ r ≡ noTransfer ⌝ }
 {
-    reply(0x80, [0, 0, 0, 0, 0, 0, 0, 0], aborts::UNKNOWN_COMMAND)
+    refused_segment(0, 0, aborts::UNKNOWN_COMMAND)
 }

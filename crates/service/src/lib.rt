@@ -10,14 +10,16 @@ use rules::states;
 use view::View;
 use writes::Written;
 ghost use mathlib.Core.Path.{_≡_};
+ghost use Rattle.rules.specs.declared.objects.Channel.{Channel};
 ghost use Rattle.rules.specs.declared.requests.Command.the-variants.{Write, Read};
 ghost use Rattle.rules.specs.declared.requests.Change.the-variants.{Keep};
 ghost use Rattle.rules.specs.Objects.{objectAt};
 ghost use Rattle.rules.specs.Requests;
 ghost use Rattle.rules.specs.Service;
-ghost use Rattle.rules.specs.Service.{replied, onSegment, onCommand};
+ghost use Rattle.rules.specs.Service.{replied, onRead, onSegment, onCommand};
 ghost use Rattle.view.specs.Seen.{seen, Sound};
 ghost use Rattle.service.specs.Missing.{missingCode};
+ghost use Rattle.service.specs.Wrote;
 
 // A reply with no change.
 fn said(bytes: [u8; 8], transfer: u8) -> Outcome
@@ -78,15 +80,11 @@ fn missing_code(found: Found) -> u32
     }
 }
 
-fn read(channel: Channel, request: [u8; 8], v: View) -> Outcome
-    requires { ⌜ Sound v ⌝ }
-    ensures { λ r. ⌜ r ≡ onCommand channel request Read (objectAt (Requests.index request) (Requests.subindex request)) (seen v) ⌝ }
+// The string begins a transfer.
+fn read_outcome(request: [u8; 8], got: Got) -> Outcome
+    ensures { λ r. ⌜ r ≡ onRead request got ⌝ }
 {
-    let found = objects::object_at(requests::index(request), requests::subindex(request));
-    let Found::At(o) = found else {
-        return refuse(request, missing_code(found));
-    };
-    match reads::read(o, v) {
+    match got {
         Got::Number(size, n) => said(
             requests::reply(requests::read_first(size), request, n),
             states::ABSENT,
@@ -96,16 +94,9 @@ fn read(channel: Channel, request: [u8; 8], v: View) -> Outcome
     }
 }
 
-fn write(channel: Channel, request: [u8; 8], given: u8, v: View) -> Outcome
-    requires { ⌜ Sound v ⌝ }
-    ensures { λ r. ⌜ r ≡ onCommand channel request (Write given) (objectAt (Requests.index request) (Requests.subindex request)) (seen v) ⌝ }
+fn write_outcome(request: [u8; 8], written: Written) -> Outcome
+    ensures { λ r. ⌜ r ≡ Wrote.wrote request written ⌝ }
 {
-    let found = objects::object_at(requests::index(request), requests::subindex(request));
-    let Found::At(o) = found else {
-        return refuse(request, missing_code(found));
-    };
-    let value = requests::value(objects::size(o), request);
-    let written = writes::write(channel, given, o, value, v);
     match written {
         Written::Changes(change) => Outcome {
             replies: true,
@@ -115,6 +106,37 @@ fn write(channel: Channel, request: [u8; 8], given: u8, v: View) -> Outcome
         },
         Written::Refused(code) => refuse(request, code),
     }
+}
+
+// The object that a request names.
+fn find(request: [u8; 8]) -> Found
+    ensures { λ r. ⌜ r ≡ objectAt (Requests.index request) (Requests.subindex request) ⌝ }
+{
+    objects::object_at(requests::index(request), requests::subindex(request))
+}
+
+fn read(request: [u8; 8], v: View) -> Outcome
+    requires { ⌜ Sound v ⌝ }
+    ensures { λ r. ⌜ ((c : Channel) → r ≡ onCommand c request Read (objectAt (Requests.index request) (Requests.subindex request)) (seen v)) ⌝ }
+{
+    let found = find(request);
+    let Found::At(o) = found else {
+        return refuse(request, missing_code(found));
+    };
+    read_outcome(request, reads::read(o, v))
+}
+
+// A write is of the object's own length.
+fn write(channel: Channel, request: [u8; 8], given: u8, v: View) -> Outcome
+    requires { ⌜ Sound v ⌝ }
+    ensures { λ r. ⌜ r ≡ onCommand channel request (Write given) (objectAt (Requests.index request) (Requests.subindex request)) (seen v) ⌝ }
+{
+    let found = find(request);
+    let Found::At(o) = found else {
+        return refuse(request, missing_code(found));
+    };
+    let value = requests::value(objects::size(o), request);
+    write_outcome(request, writes::write(channel, given, o, value, v))
 }
 
 // What a request brings about, served in Pre-Operational and Operational.
@@ -129,7 +151,7 @@ pub fn outcome(channel: Channel, request: [u8; 8], v: View) -> Outcome
     let command = requests::command(request[0]);
     match command {
         Command::Write(given) => write(channel, request, given, v),
-        Command::Read => read(channel, request, v),
+        Command::Read => read(request, v),
         Command::Segment(toggle) => segment(toggle, v.transfer),
         Command::End => silent(states::ABSENT),
         Command::Unknown => refuse(request, aborts::UNKNOWN_COMMAND),

@@ -16,16 +16,13 @@ pub fn reaches(runs: bool, period: u16, elapsed: u16, ms: u16) -> bool
 pub fn elapsed_after(runs: bool, period: u16, elapsed: u16, ms: u16) -> u16
     ensures { λ r. ⌜ r ≡ Time.elapsedAfter runs period elapsed ms ⌝ }
 {
-    if runs & (period != 0) {
-        let sum = (elapsed as u32) + (ms as u32);
-        if (period as u32) <= sum {
-            0
-        } else {
-            sum as u16
-        }
-    } else {
-        elapsed
+    if reaches(runs, period, elapsed, ms) {
+        return 0;
     }
+    if runs & (period != 0) {
+        return elapsed + ms;
+    }
+    elapsed
 }
 
 // The PDO is sent in Operational where it is on.

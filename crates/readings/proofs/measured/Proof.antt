@@ -11,17 +11,14 @@ inside-requires c κs = search needs
 
 returns : tie.Need-returns
 returns c =
-    let m = toZ-ofZ (c .before .before .fits .m) in
+    let m = toZ-ofZ (c .before .before .before .fits .m) in
     simp (m, simp (c .before .inside .ensures, m) at (c .if1 .taken))
 
 returns-2 : tie.Need-returns-2
 returns-2 c =
     let start = c .before .before .before in
-    let m = toZ-ofZ (start .fits .m) in
-    simp (
-      ok w32 (start .args .x .m) (c .struct-told .given .1 .0 .1),
-      simp (c .before .before .inside .ensures, m) at (c .before .if1 .left),
-    )
+    let last = ok w32 (start .args .x .m) (c .before .before .struct-told .given .1 .0 .1) in
+    simp (last, simp (c .before .inside .ensures, toZ-ofZ (start .fits .m)) at (c .if1 .left))
 
 pub measured-spec : {M : Type 1} → statement M
 measured-spec = tie.close (tie.spec inside-requires returns returns-2)

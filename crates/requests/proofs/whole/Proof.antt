@@ -1,0 +1,22 @@
+-- `whole` meets its contract: two numbers in two bytes are one in four, which fits 32 bits.
+use borrow.Author.Needs.{needs}
+use Rattle.rules.specs.Numbers.{twoAt, fourAt}
+use Rattle.requests.proofs.whole.Statement.{statement}
+use Rattle.requests.proofs.whole.Tie as tie
+
+pub whole-spec : {M : Type 1} → statement M
+unfolding twoAt fourAt
+whole-spec =
+    tie.close
+    (tie.spec
+    (λ c. search needs)
+    (λ c. search needs)
+    (λ c κs. search needs)
+    (λ c. search needs)
+    (λ c. search needs)
+    (λ c. search needs)
+    (λ c κs. search needs)
+    (λ c. search needs)
+    (λ c. search needs)
+    (λ c. search needs)
+    (λ c. simp (c .before .two .ensures, c .two2 .ensures)))
