@@ -1,1 +1,3 @@
+pub mod Acted
+pub mod Beside
 pub mod InRange

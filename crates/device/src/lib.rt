@@ -101,7 +101,10 @@ impl Moved {
         let sent = self.sent;
         Stepped {
             device,
-            answer: Answer { refusal: 0, sent },
+            answer: Answer {
+                refusal: 0,
+                sent,
+            },
         }
     }
 }
