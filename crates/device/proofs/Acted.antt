@@ -9,16 +9,10 @@ use Rattle.rules.specs.declared.objects.Channel.the-variants.{One, Two}
 use Rattle.rules.specs.declared.requests.Change.{Change}
 use Rattle.rules.specs.declared.requests.Change.the-variants.{Keep, Put, Zero, Empty, Fill}
 use Rattle.rules.specs.declared.requests.Outcome.{Outcome}
-use Rattle.rules.specs.Service.{onErrors, onHeartbeat, onPdo, outcome, after}
-use Rattle.view.specs.Seen as view
+use Rattle.rules.specs.Service.{onErrors, onHeartbeat, onPdo, after}
 use Rattle.device.specs.declared.Device.{Device}
 use Rattle.device.specs.Seen.{seen, alone, held}
-use Rattle.device.specs.Views.{viewOf, withTransfer}
-
--- a request sees of the record all that its outcome depends on
-pub outcome-seen : (c : Channel) (request : List ℕ) (d : Device) (j : List ℕ) → outcome c request (view.seen (viewOf c d)) ≡ outcome c request (seen d j)
-outcome-seen One request d j = refl
-outcome-seen Two request d j = refl
+use Rattle.device.specs.Views.{withTransfer}
 
 -- the parts of the record after a change
 abbrev pub parts : Change → Device → Device

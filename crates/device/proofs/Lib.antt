@@ -1,3 +1,4 @@
 pub mod Acted
 pub mod Beside
 pub mod InRange
+pub mod Views

@@ -1,8 +1,10 @@
 // The device: its record, what moves it, and what it answers.
 mod axes;
+mod events;
 mod network;
 mod power_on;
 mod range;
+mod serving;
 mod time;
 
 use rules::errors::ErrorList;
