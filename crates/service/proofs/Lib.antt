@@ -1,1 +1,1 @@
-mod Absent
+mod Laws

@@ -139,15 +139,11 @@ fn write(channel: Channel, request: [u8; 8], given: u8, v: View) -> Outcome
     write_outcome(request, writes::write(channel, given, o, value, v))
 }
 
-// What a request brings about, served in Pre-Operational and Operational.
-pub fn outcome(channel: Channel, request: [u8; 8], v: View) -> Outcome
+// By the first byte.
+fn serve(channel: Channel, request: [u8; 8], v: View) -> Outcome
     requires { ⌜ Sound v ⌝ }
-    ensures { λ r. ⌜ r ≡ Service.outcome channel request (seen v) ⌝ }
+    ensures { λ r. ⌜ r ≡ onCommand channel request (Requests.command request) (objectAt (Requests.index request) (Requests.subindex request)) (seen v) ⌝ }
 {
-    let network = v.network;
-    if (network != states::PRE_OPERATIONAL) & (network != states::OPERATIONAL) {
-        return silent(v.transfer);
-    }
     let command = requests::command(request[0]);
     match command {
         Command::Write(given) => write(channel, request, given, v),
@@ -155,5 +151,23 @@ pub fn outcome(channel: Channel, request: [u8; 8], v: View) -> Outcome
         Command::Segment(toggle) => segment(toggle, v.transfer),
         Command::End => silent(states::ABSENT),
         Command::Unknown => refuse(request, aborts::UNKNOWN_COMMAND),
+    }
+}
+
+fn is_served(network: u8) -> bool
+    ensures { λ r. ⌜ r ≡ Service.served network ⌝ }
+{
+    (network == states::PRE_OPERATIONAL) | (network == states::OPERATIONAL)
+}
+
+// What a request brings about, served in Pre-Operational and Operational.
+pub fn outcome(channel: Channel, request: [u8; 8], v: View) -> Outcome
+    requires { ⌜ Sound v ⌝ }
+    ensures { λ r. ⌜ r ≡ Service.outcome channel request (seen v) ⌝ }
+{
+    if is_served(v.network) {
+        serve(channel, request, v)
+    } else {
+        silent(v.transfer)
     }
 }
