@@ -9,8 +9,8 @@ use rules::events::FrameHead;
 use rules::objects::Channel;
 ghost use mathlib.Core.Path.{_≡_};
 ghost use Prim.Native.Nat.{_*_};
-ghost use lib.ListN.{length};
-ghost use Rattle.rules.specs.Events.{onFrame};
+ghost use lib.ListN.{length as lengthOf};
+ghost use Rattle.rules.specs.Events.{onFrame, onEvent};
 ghost use Rattle.rules.specs.Results.{refused};
 ghost use Rattle.device.specs.Answers.{movedOf, steppedOf};
 ghost use Rattle.device.specs.Promise.{Answered};
@@ -45,7 +45,7 @@ impl Device {
 
     // A frame that some rule names, or that does nothing.
     fn receive(self, journal: &mut [u8], head: FrameHead, bytes: [u8; 8], length: u8) -> Moved
-        requires { ⌜ (Ranged self) × (length (now journal) ≡ 512 * self .saves .blocks) ⌝ }
+        requires { ⌜ (Ranged self) × (lengthOf (now journal) ≡ 512 * self .saves .blocks) ⌝ }
         ensures { λ r. ⌜ (r ≡ movedOf (onFrame head bytes length (seen self (now (journal .entry)))))
             × (now (journal .exit) ≡ onFrame head bytes length (seen self (now (journal .entry))) .state .journal) ⌝ }
     {
@@ -69,16 +69,12 @@ impl Device {
         self.quiet()
     }
 
-    // The record goes in by value and comes back, with the frames; the lent journal is written by a save or a load alone.
-    pub fn event(mut self, journal: &mut [u8], event: Event, bytes: [u8; 8], length: u8) -> Stepped
-        ensures { λ r. ⌜ Answered self (now (journal .entry)) event bytes length r (now (journal .exit)) ⌝ }
+    // An event of a record and a journal that are not refused.
+    fn happen(self, journal: &mut [u8], event: Event, bytes: [u8; 8], length: u8) -> Stepped
+        requires { ⌜ (Ranged self) × (lengthOf (now journal) ≡ 512 * self .saves .blocks) ⌝ }
+        ensures { λ r. ⌜ (r ≡ steppedOf (onEvent event bytes length (seen self (now (journal .entry)))))
+            × (now (journal .exit) ≡ onEvent event bytes length (seen self (now (journal .entry))) .state .journal) ⌝ }
     {
-        if !self.in_range() {
-            return self.refuse(RECORD_OUT_OF_RANGE);
-        }
-        if journal.len() != 512 * (self.saves.blocks as usize) {
-            return self.refuse(WRONG_LENGTH);
-        }
         match event {
             Event::Received(head) => {
                 if (head.identifier <= MOST_IDENTIFIER) & (length <= MOST_LENGTH) {
@@ -89,5 +85,18 @@ impl Device {
             Event::Tick(ms) => self.tick(ms).accepted(),
             Event::Measured(axis, m) => self.measure(axis, m).accepted(),
         }
+    }
+
+    // The record goes in by value and comes back, with the frames; the lent journal is written by a save or a load alone.
+    pub fn event(mut self, journal: &mut [u8], event: Event, bytes: [u8; 8], length: u8) -> Stepped
+        ensures { λ r. ⌜ Answered self (now (journal .entry)) event bytes length r (now (journal .exit)) ⌝ }
+    {
+        if !self.in_range() {
+            return self.refuse(RECORD_OUT_OF_RANGE);
+        }
+        if journal.len() != 512 * (self.saves.blocks as usize) {
+            return self.refuse(WRONG_LENGTH);
+        }
+        self.happen(journal, event, bytes, length)
     }
 }
