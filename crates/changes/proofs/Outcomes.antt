@@ -116,9 +116,9 @@ module _ (u : State) where
       let v = valueFor o request in
       writes request (writeCheck given o v u) (change c o v u)
       (λ e. changes c o request
-        (last (valueCheck (u .node) o v) (stateCheck o v u)
-        (last (lengthCheck given (rowOf o .size)) (valueCheck (u .node) o v then stateCheck o v u)
-        (last (unless (rowOf o .writable) 0x06010002) (lengthCheck given (rowOf o .size) then valueCheck (u .node) o v then stateCheck o v u) e))))
+      (last (valueCheck (u .node) o v) (stateCheck o v u)
+      (last (lengthCheck given (rowOf o .size)) (valueCheck (u .node) o v then stateCheck o v u)
+      (last (unless (rowOf o .writable) 0x06010002) (lengthCheck given (rowOf o .size) then valueCheck (u .node) o v then stateCheck o v u) e))))
   commands c request (Write given) NoObject = keeps
   commands c request (Write given) NoSubindex = keeps
   commands c request Read (At o) = reads request (readOf o u)

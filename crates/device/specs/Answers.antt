@@ -1,9 +1,8 @@
 -- The frames of a result as an answer holds them, and the promise of an event.
-use mathlib.Core.Path.{_≡_}
 use mathlib.Core.List.{List, [], _∷_}
 use Prim.Native.Nat.{ℕ, zero, suc}
 use lib.ListN.{length}
-use Rattle.frames.specs.None.{noFrame}
+use Rattle.rules.specs.Frames.{noFrame}
 use Rattle.rules.specs.declared.events.Frame.{Frame}
 use Rattle.rules.specs.Results.{Result}
 use Rattle.device.specs.declared.Answer.{Answer}

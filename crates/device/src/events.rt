@@ -36,10 +36,7 @@ impl Device {
         let sent = Sent::none();
         Stepped {
             device: self,
-            answer: Answer {
-                refusal,
-                sent,
-            },
+            answer: Answer { refusal, sent },
         }
     }
 

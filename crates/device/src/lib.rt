@@ -16,7 +16,7 @@ use rules::parts::Saves;
 use rules::settings::Settings;
 ghost use mathlib.Core.Path.{_≡_};
 ghost use mathlib.Core.List.{[], _∷_};
-ghost use Rattle.device.specs.Answers.{sentOf, answerOf};
+ghost use Rattle.device.specs.Answers.{sentOf};
 
 // The device record: plain numbers, so that any record can be given, and refused.
 #[repr(C)]
@@ -103,10 +103,7 @@ impl Moved {
         let sent = self.sent;
         Stepped {
             device,
-            answer: Answer {
-                refusal: 0,
-                sent,
-            },
+            answer: Answer { refusal: 0, sent },
         }
     }
 }

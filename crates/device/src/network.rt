@@ -18,7 +18,7 @@ ghost use Rattle.rules.specs.Network.{noReading, start, communicating, onComman
 ghost use Rattle.rules.specs.Results.{accepted};
 ghost use Rattle.rules.specs.State.{noCounts, withNetwork};
 ghost use Rattle.device.specs.Answers.{sentOf, movedOf};
-ghost use Rattle.device.specs.Seen.{alone, held};
+ghost use Rattle.device.specs.Seen.{alone};
 
 const SPOILED: u16 = 0xFF00;
 
