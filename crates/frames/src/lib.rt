@@ -2,10 +2,9 @@
 ghost use mathlib.Core.Path.{_≡_};
 ghost use mathlib.Core.Bool.{true, cond};
 ghost use Prim.Native.Nat.{_≤_};
-ghost use Rattle.frames.specs.None.{noFrame};
 ghost use Rattle.rules.specs.Errors;
 ghost use Rattle.rules.specs.Frames;
-ghost use Rattle.rules.specs.Frames.{bootUp, pdoFrame, replyFrame, requestsAt, repliesAt};
+ghost use Rattle.rules.specs.Frames.{noFrame, bootUp, pdoFrame, replyFrame, requestsAt, repliesAt};
 ghost use Rattle.rules.specs.declared.objects.Setting.the-variants.{Resolution};
 ghost use Rattle.rules.specs.Angle.{shown};
 ghost use Rattle.rules.specs.Numbers.{unsigned};

@@ -14,6 +14,10 @@ use Rattle.rules.specs.Angle.{shown}
 abbrev pub frame : ℕ → List ℕ → Frame
 frame identifier bytes = record { identifier = identifier; length = length bytes; bytes = take 8 (bytes ++ replicate 8 0) }
 
+-- no frame: all zero
+abbrev pub noFrame : Frame
+noFrame = frame 0 []
+
 -- where a channel's requests come and its replies go: 1200 and 1201
 abbrev pub requestsAt : Channel → ℕ
 requestsAt One = 0x600

@@ -1,0 +1,60 @@
+-- The journal beside the record: what an event does to the record does not depend on it, and none but a save or a load touches it.
+use mathlib.Core.Path.{_≡_, refl}
+use mathlib.Core.Bool.{Bool, true, false, cond, _&&_, _||_}
+use mathlib.Core.List.{List}
+use Prim.Native.Nat.{ℕ}
+use lib.Dec.{eqb}
+use lib.IntN.{ℤ}
+use lib.ListN.{getD}
+use Rattle.rules.specs.declared.objects.Axis.{Axis}
+use Rattle.rules.specs.declared.objects.Axis.the-variants.{X, Y}
+use Rattle.rules.specs.Network.{start, onCommand, onNetwork}
+use Rattle.rules.specs.Ranges.{inRange}
+use Rattle.rules.specs.Readings.{onReading}
+use Rattle.rules.specs.Results.{Result}
+use Rattle.rules.specs.Time.{syncCounts, onTick, onSync}
+use Rattle.device.specs.declared.Device.{Device}
+use Rattle.device.specs.Answers.{movedOf}
+use Rattle.device.specs.Seen.{seen, alone}
+
+-- r leaves the journal j, and moves the record as s does
+pub record Beside (j : List ℕ) (r s : Result) : Type 0 where
+  pub same : movedOf r ≡ movedOf s
+  pub kept : r .state .journal ≡ j
+
+pub either : (j : List ℕ) (t : Bool) {a b c d : Result} → Beside j a b → Beside j c d → Beside j (cond t a c) (cond t b d)
+either j true x y = x
+either j false x y = y
+
+module _ (d : Device) (j : List ℕ) where
+  pub range-beside : inRange (seen d j) ≡ inRange (alone d)
+  unfolding inRange
+  range-beside = refl
+
+  pub tick-beside : (ms : ℕ) → Beside j (onTick ms (seen d j)) (onTick ms (alone d))
+  unfolding onTick
+  tick-beside ms = record { same = refl; kept = refl }
+
+  pub sync-beside : Beside j (onSync (seen d j)) (onSync (alone d))
+  unfolding onSync
+  sync-beside = either j (syncCounts (alone d)) (record { same = refl; kept = refl }) (record { same = refl; kept = refl })
+
+  pub reading-beside : (a : Axis) (m : ℤ) → Beside j (onReading a m (seen d j)) (onReading a m (alone d))
+  unfolding onReading
+  reading-beside X m = record { same = refl; kept = refl }
+  reading-beside Y m = record { same = refl; kept = refl }
+
+  command-beside : (command : ℕ) → Beside j (onCommand command (seen d j)) (onCommand command (alone d))
+  unfolding onCommand start
+  command-beside command =
+      either j (eqb command 0x01) (record { same = refl; kept = refl })
+      (either j (eqb command 0x02) (record { same = refl; kept = refl })
+      (either j (eqb command 0x80) (record { same = refl; kept = refl })
+      (either j (eqb command 0x81) (record { same = refl; kept = refl })
+      (either j (eqb command 0x82) (record { same = refl; kept = refl }) (record { same = refl; kept = refl })))))
+
+  pub network-beside : (bytes : List ℕ) (length : ℕ) → Beside j (onNetwork bytes length (seen d j)) (onNetwork bytes length (alone d))
+  unfolding onNetwork
+  network-beside bytes length =
+      let to = getD bytes 1 0 in
+      either j (eqb length 2 && (eqb to 0 || eqb to (d .node))) (command-beside (getD bytes 0 0)) (record { same = refl; kept = refl })

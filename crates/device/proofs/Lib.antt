@@ -1,0 +1,4 @@
+pub mod Accepted
+pub mod Acted
+pub mod Beside
+pub mod Views

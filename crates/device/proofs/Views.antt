@@ -1,0 +1,87 @@
+-- A request sees of the record all that its outcome depends on.
+use mathlib.Core.Path.{_≡_, refl}
+use mathlib.Core.List.{List}
+use Prim.Native.Nat.{ℕ}
+use Rattle.rules.specs.declared.objects.Channel.{Channel}
+use Rattle.rules.specs.declared.objects.Channel.the-variants.{One, Two}
+use Rattle.rules.specs.declared.objects.Found.{Found}
+use Rattle.rules.specs.declared.objects.Found.the-variants.{At, NoObject, NoSubindex}
+use Rattle.rules.specs.declared.objects.Object.{Object}
+use Rattle.rules.specs.declared.objects.Object.the-variants.{Const, ErrorCount, ErrorEntry, Name, Save, Load, Filled, Angle, Of}
+use Rattle.rules.specs.declared.objects.Setting.{Setting}
+use Rattle.rules.specs.declared.objects.Setting.the-variants.{Heartbeat, On, Transmission, Timer, Resolution, Operating, Preset, Offset, Differential}
+use Rattle.rules.specs.declared.requests.Command.{Command}
+use Rattle.rules.specs.declared.requests.Command.the-variants.{Write, Read, Segment, End, Unknown}
+use Rattle.rules.specs.Cells.{transfer, get}
+use Rattle.rules.specs.Objects.{objectAt}
+use Rattle.rules.specs.Reads.{readOf}
+use Rattle.rules.specs.Requests.{command, index, subindex, valueFor}
+use Rattle.rules.specs.Service.{onCommand, outcome}
+use Rattle.rules.specs.State.{State}
+use Rattle.rules.specs.Writes.{settingCheck, stateCheck, settingChange, change}
+use Rattle.view.specs.Seen as view
+use Rattle.device.specs.declared.Device.{Device}
+use Rattle.device.specs.Seen.{seen}
+use Rattle.device.specs.Views.{viewOf}
+
+module _ (c : Channel) (d : Device) (j : List ℕ) where
+  -- the view's state, and the record's beside the journal
+  abbrev looked : State
+  looked = view.seen (viewOf c d)
+
+  abbrev whole : State
+  whole = seen d j
+
+  read-alike : (o : Object) → readOf o looked ≡ readOf o whole
+  read-alike (Const f) = refl
+  read-alike ErrorCount = refl
+  read-alike (ErrorEntry n) = refl
+  read-alike Name = refl
+  read-alike Save = refl
+  read-alike Load = refl
+  read-alike Filled = refl
+  read-alike (Angle a) = refl
+  read-alike (Of s) = refl
+
+  setting-alike : (s : Setting) (v : ℕ) → (settingCheck s v looked ≡ settingCheck s v whole) × (settingChange s v looked ≡ settingChange s v whole)
+  setting-alike Heartbeat v = (refl, refl)
+  setting-alike On v = (refl, refl)
+  setting-alike Transmission v = (refl, refl)
+  setting-alike Timer v = (refl, refl)
+  setting-alike Resolution v = (refl, refl)
+  setting-alike (Operating a) v = (refl, refl)
+  setting-alike (Preset a) v = (refl, refl)
+  setting-alike (Offset a) v = (refl, refl)
+  setting-alike (Differential a) v = (refl, refl)
+
+  write-alike : (o : Object) (v : ℕ) → (stateCheck o v looked ≡ stateCheck o v whole) × (change c o v looked ≡ change c o v whole)
+  write-alike (Const f) v = (refl, refl)
+  write-alike ErrorCount v = (refl, refl)
+  write-alike (ErrorEntry n) v = (refl, refl)
+  write-alike Name v = (refl, refl)
+  write-alike Save v = (refl, refl)
+  write-alike Load v = (refl, refl)
+  write-alike Filled v = (refl, refl)
+  write-alike (Angle a) v = (refl, refl)
+  write-alike (Of s) v = setting-alike s v
+
+transfer-alike : (c : Channel) (d : Device) (j : List ℕ) → get (transfer c) (view.seen (viewOf c d)) ≡ get (transfer c) (seen d j)
+transfer-alike One d j = refl
+transfer-alike Two d j = refl
+
+module _ (c : Channel) (request : List ℕ) (d : Device) (j : List ℕ) where
+  command-alike : (k : Command) (f : Found) → onCommand c request k f (view.seen (viewOf c d)) ≡ onCommand c request k f (seen d j)
+  command-alike (Write given) (At o) =
+      let e = write-alike c d j o (valueFor o request) in
+      rw (e .0, e .1)
+  command-alike (Write given) NoObject = refl
+  command-alike (Write given) NoSubindex = refl
+  command-alike Read (At o) = rw (read-alike c d j o)
+  command-alike Read NoObject = refl
+  command-alike Read NoSubindex = refl
+  command-alike (Segment toggle) f = rw (transfer-alike c d j)
+  command-alike End f = refl
+  command-alike Unknown f = refl
+
+  pub outcome-alike : outcome c request (view.seen (viewOf c d)) ≡ outcome c request (seen d j)
+  outcome-alike = rw (command-alike (command request) (objectAt (index request) (subindex request)), transfer-alike c d j)

@@ -1,0 +1,48 @@
+-- The device record and a lent journal as the rules' state, and back.
+use mathlib.Core.Path.{_≡_}
+use mathlib.Core.Bool.{true}
+use mathlib.Core.List.{List, []}
+use Prim.Native.Nat.{ℕ}
+use Rattle.rules.specs.Ranges.{inRange}
+use Rattle.rules.specs.State.{State}
+use Rattle.device.specs.declared.Device.{Device}
+
+abbrev pub seen : Device → List ℕ → State
+seen d j = record {
+  node = d .node;
+  identity = d .identity;
+  network = d .network;
+  saves = d .saves;
+  running = d .running;
+  errors = d .errors;
+  heartbeat = d .heartbeat;
+  pdo = d .pdo;
+  one = d .one;
+  two = d .two;
+  x = d .x;
+  y = d .y;
+  journal = j;
+}
+
+abbrev pub held : State → Device
+held u = record {
+  node = u .node;
+  network = u .network;
+  one = u .one;
+  two = u .two;
+  heartbeat = u .heartbeat;
+  pdo = u .pdo;
+  identity = u .identity;
+  saves = u .saves;
+  running = u .running;
+  errors = u .errors;
+  x = u .x;
+  y = u .y;
+}
+
+-- what most events do has nothing to do with the journal: they are said of the record beside no journal
+abbrev pub alone : Device → State
+alone d = seen d []
+
+abbrev pub Ranged : Device → Type 0
+Ranged d = inRange (alone d) ≡ true
