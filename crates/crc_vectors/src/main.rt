@@ -1,7 +1,7 @@
 // Prints the check of each line of standard input in four hexadecimal digits.
 use libc::STDIN_FILENO;
 use libc::STDOUT_FILENO;
-ghost use Prim.Native.Nat.{_≤_, _<_};
+ghost use Prim.Native.Nat.{_<_};
 ghost use lib.ListN.{length};
 
 const LINE_FEED: u8 = 10;

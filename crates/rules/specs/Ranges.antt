@@ -1,6 +1,6 @@
 -- The device and what moves it, the ranges: what a device record holds that is not refused with 3.
-use mathlib.Core.Bool.{Bool, true, cond, not, _&&_, _||_}
-use mathlib.Core.List.{List, [], _∷_}
+use mathlib.Core.Bool.{Bool, cond, not, _&&_, _||_}
+use mathlib.Core.List.{[]}
 use Prim.Native.Nat.{ℕ}
 use lib.Dec.{eqb, ltb, leb}
 use lib.IntN.{ℤ, pos}
@@ -13,7 +13,7 @@ use Rattle.rules.specs.declared.settings.PdoSettings.{PdoSettings}
 use Rattle.rules.specs.Block.{mostBlocks}
 use Rattle.rules.specs.Numbers.{between, betweenℤ, minus}
 use Rattle.rules.specs.Settings.{synchronous, inTable}
-use Rattle.rules.specs.State.{State, stopped, operational, preOperational, absent, afterSeven, none, faulty}
+use Rattle.rules.specs.State.{State, stopped, operational, preOperational, afterSeven, none, faulty}
 
 -- "node 1 to 47"
 abbrev pub nodeOk : ℕ → Bool

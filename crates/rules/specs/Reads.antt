@@ -21,7 +21,7 @@ use Rattle.rules.specs.Cells.{Rest, running, errors, kept, rest, get, re
 use Rattle.rules.specs.Errors.{register}
 use Rattle.rules.specs.Frames.{requestsAt, repliesAt}
 use Rattle.rules.specs.Numbers.{unsigned}
-use Rattle.rules.specs.Objects.{rowOf, fixedRow, settingRow}
+use Rattle.rules.specs.Objects.{fixedRow, settingRow}
 use Rattle.rules.specs.Settings.{Held}
 use Rattle.rules.specs.State.{State, good}
 use Rattle.rules.specs.Writes.{onValue, offValue}

@@ -1,7 +1,7 @@
 -- Objects, the settings: accepted values and factory.
 use mathlib.Core.Bool.{Bool, _&&_, _||_}
 use mathlib.Core.List.{List, [], _∷_}
-use Prim.Native.Nat.{ℕ, _+_}
+use Prim.Native.Nat.{ℕ}
 use lib.Dec.{eqb, leb}
 use lib.IntN.{ℤ, pos}
 use Rattle.rules.specs.declared.objects.Axis.{Axis}

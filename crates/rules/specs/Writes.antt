@@ -19,7 +19,7 @@ use Rattle.rules.specs.Block.{save, load}
 use Rattle.rules.specs.Cells.{running, kept, rest, get, readingIn}
 use Rattle.rules.specs.Numbers.{signed}
 use Rattle.rules.specs.Objects.{rowOf}
-use Rattle.rules.specs.Settings.{Held, within, factory}
+use Rattle.rules.specs.Settings.{within, factory}
 use Rattle.rules.specs.State.{State}
 
 -- one check after the other: the first that refuses gives its code

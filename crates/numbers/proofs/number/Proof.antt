@@ -1,17 +1,16 @@
+-- `number` meets its contract by the upper half: there the number is counted down from −1.
 use Prim.Native.Nat.{_-_}
-use mathlib.Core.Path.{_≡_, _∙_, ap, sym}
+use mathlib.Core.Path.{_≡_, _∙_, ap}
 use native.Mathlib.Omega.{arith}
 use borrow.Author.Tests.{lt-ltb, le-ltb}
 use lib.IntN.{pos, negsuc}
 use mir.Facts.{toZ-ofZ, toZ-pos}
 use mir.Syntax.{w16}
-use mir.Val.{SFits, toZ}
+use mir.Val.{toZ}
 use Rattle.laws.proofs.Signed.{unflip}
 use borrow.Author.Needs.{needs}
 use Rattle.numbers.proofs.number.Statement.{statement}
 use Rattle.numbers.proofs.number.Tie as tie
-use Rattle.numbers.proofs.number.Reads as reads
-use Rattle.numbers.proofs.number.Lts as lts
 
 low : (c : tie.Else1) → toZ w16 (65535 - c .before .args .n) ≡ pos (65535 - c .before .args .n)
 low c = toZ-pos w16 {n = 65535 - c .before .args .n} (omega arith)
@@ -29,7 +28,7 @@ sub-result-2 : tie.Need-sub-result-2
 sub-result-2 c = simp (low c, unflip) (record { sfits = omega arith })
 
 returns : tie.Need-returns
-returns c = simp (toZ-pos w16 {n = c .before .args .n} (omega arith), lt-ltb _ _ (c .if1 .taken))
+returns c = simp (lt-ltb _ _ (c .if1 .taken))
 
 returns-2 : tie.Need-returns-2
 returns-2 c =
