@@ -1,7 +1,98 @@
-// What the recorder's C firmware calls.
+// What the recorder's C firmware calls: power-on, one event on its lent device record, and the block query.
+use device::Answer;
+use device::Device;
+use device::Stepped;
+use rules::events::Event;
+use rules::events::FrameHead;
 use rules::journal::Judged;
+use rules::objects::Axis;
+use rules::parts::Identity;
 ghost use mathlib.Core.Path.{_≡_};
+ghost use Rattle.device.specs.Answers.{steppedOf};
 ghost use Rattle.rules.specs.Block.{judged, judgedNumber};
+ghost use Rattle.rules.specs.PowerOn.{powerOn};
+ghost use Rattle.basintilt.specs.Happenings.{eventOf, bytesIn};
+ghost use Rattle.basintilt.specs.Lent.{stepOf, journalOf, Lent};
+
+// An event in numbers. Kind 0 is a frame, 1 a remote frame (identifier, length and bytes), 2 a tick (ms), 3 and 4 a reading of
+// axis X and Y (m); any other number is a remote frame of identifier 0 and length 0, which does nothing.
+#[repr(C)]
+pub struct Happening {
+    pub kind: u8,
+    pub length: u8,
+    pub ms: u16,
+    pub identifier: u32,
+    pub m: i32,
+    pub bytes: [u8; 8],
+}
+
+fn event_of(happening: Happening) -> Event
+    ensures { λ r. ⌜ r ≡ eventOf happening ⌝ }
+{
+    let kind = happening.kind;
+    match kind {
+        0 => Event::Received(FrameHead {
+            identifier: happening.identifier,
+            remote: false,
+        }),
+        1 => Event::Received(FrameHead {
+            identifier: happening.identifier,
+            remote: true,
+        }),
+        2 => Event::Tick(happening.ms),
+        3 => Event::Measured(Axis::X, happening.m),
+        4 => Event::Measured(Axis::Y, happening.m),
+        _ => Event::Received(FrameHead {
+            identifier: 0,
+            remote: true,
+        }),
+    }
+}
+
+// How many bytes the event has: none where its kind is no kind.
+fn bytes_in(happening: Happening) -> u8
+    ensures { λ r. ⌜ r ≡ bytesIn happening ⌝ }
+{
+    if happening.kind <= 4 {
+        happening.length
+    } else {
+        0
+    }
+}
+
+// The step by value.
+fn step(device: Device, journal: &mut [u8], happening: Happening) -> Stepped
+    ensures { λ r. ⌜ (r ≡ stepOf device (now (journal .entry)) happening) × (now (journal .exit) ≡ journalOf device (now (journal .entry)) happening) ⌝ }
+{
+    let event = event_of(happening);
+    let length = bytes_in(happening);
+    let bytes = happening.bytes;
+    device.event(journal, event, bytes, length)
+}
+
+// The recorder lends its one device record and its journal, and finds them updated.
+#[no_mangle]
+pub extern "C" fn basintilt_event(
+    device: &mut Device,
+    journal: &mut [u8],
+    happening: Happening,
+) -> Answer
+    ensures { λ r. ⌜ Lent (now (device .entry)) (now (journal .entry)) happening r (now (device .exit)) (now (journal .exit)) ⌝ }
+{
+    let was = *device;
+    let r = step(was, journal, happening);
+    let next = r.device;
+    *device = next;
+    r.answer
+}
+
+// The record comes back by value; the journal is only read.
+#[no_mangle]
+pub extern "C" fn basintilt_power_on(node: u32, identity: Identity, journal: &[u8]) -> Stepped
+    ensures { λ r. ⌜ r ≡ steppedOf (powerOn node identity (now (journal .entry))) ⌝ }
+{
+    Device::power_on(node, identity, journal)
+}
 
 // A lent block and the place it should have: 0 good there, 1 blank, 2 neither.
 #[no_mangle]

@@ -20,7 +20,7 @@ use Rattle.rules.specs.State.{State}
 use Rattle.rules.specs.Time.{syncCounts, onTick, onSync}
 use Rattle.device.specs.declared.Moved.{Moved}
 use Rattle.device.specs.declared.Stepped.{Stepped}
-use Rattle.device.specs.Answers.{movedOf, steppedOf}
+use Rattle.device.specs.Answers.{answered, movedOf, steppedOf}
 
 abbrev Accepted : Result → Type 0
 Accepted r = r .refusal ≡ 0
@@ -68,7 +68,7 @@ module _ (u : State) where
 
 -- what is accepted steps as it moves
 pub stepped : (m : Moved) (s : Stepped) (r : Result)
-    → s ≡ record { device = m .device; answer = record { refusal = 0; sent = m .sent } }
+    → s ≡ record { device = m .device; answer = answered 0 (m .sent) }
     → m ≡ movedOf r
     → r .refusal ≡ 0
     → s ≡ steppedOf r

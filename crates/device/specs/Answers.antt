@@ -20,8 +20,11 @@ frameAt (suc n) (f ∷ l) = frameAt n l
 abbrev pub sentOf : List Frame → Sent
 sentOf l = record { count = length l; first = frameAt 0 l; second = frameAt 1 l }
 
+abbrev pub answered : ℕ → Sent → Answer
+answered refusal s = record { refusal = refusal; count = s .count; first = s .first; second = s .second }
+
 abbrev pub answerOf : Result → Answer
-answerOf r = record { refusal = r .refusal; sent = sentOf (r .sent) }
+answerOf r = answered (r .refusal) (sentOf (r .sent))
 
 abbrev pub movedOf : Result → Moved
 movedOf r = record { device = held (r .state); sent = sentOf (r .sent) }

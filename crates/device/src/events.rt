@@ -1,5 +1,4 @@
 // One event: refused by number, or what it does.
-use crate::Answer;
 use crate::Device;
 use crate::Moved;
 use crate::Sent;
@@ -33,10 +32,9 @@ impl Device {
     fn refuse(self, refusal: u8) -> Stepped
         ensures { λ r. ⌜ r ≡ steppedOf (refused refusal (alone self)) ⌝ }
     {
-        let sent = Sent::none();
         Stepped {
             device: self,
-            answer: Answer { refusal, sent },
+            answer: Sent::none().answer(refusal),
         }
     }
 

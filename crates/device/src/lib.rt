@@ -16,7 +16,7 @@ use rules::parts::Saves;
 use rules::settings::Settings;
 ghost use mathlib.Core.Path.{_≡_};
 ghost use mathlib.Core.List.{[], _∷_};
-ghost use Rattle.device.specs.Answers.{sentOf};
+ghost use Rattle.device.specs.Answers.{answered, sentOf};
 
 // The device record: plain numbers, so that any record can be given, and refused.
 #[repr(C)]
@@ -36,7 +36,6 @@ pub struct Device {
 }
 
 // The frames of one answer, in their order; the places past the count are all zero.
-#[repr(C)]
 pub struct Sent {
     pub count: u8,
     pub first: Frame,
@@ -47,7 +46,9 @@ pub struct Sent {
 #[repr(C)]
 pub struct Answer {
     pub refusal: u8,
-    pub sent: Sent,
+    pub count: u8,
+    pub first: Frame,
+    pub second: Frame,
 }
 
 // The new device record and the answer.
@@ -64,6 +65,19 @@ pub struct Moved {
 }
 
 impl Sent {
+    pub fn answer(self, refusal: u8) -> Answer
+        ensures { λ r. ⌜ r ≡ answered refusal self ⌝ }
+    {
+        let first = self.first;
+        let second = self.second;
+        Answer {
+            refusal,
+            count: self.count,
+            first,
+            second,
+        }
+    }
+
     pub fn none() -> Self
         ensures { λ r. ⌜ r ≡ sentOf [] ⌝ }
     {
@@ -97,13 +111,13 @@ impl Sent {
 
 impl Moved {
     pub fn accepted(self) -> Stepped
-        ensures { λ r. ⌜ r ≡ record { device = self .device; answer = record { refusal = 0; sent = self .sent } } ⌝ }
+        ensures { λ r. ⌜ r ≡ record { device = self .device; answer = answered 0 (self .sent) } ⌝ }
     {
         let device = self.device;
         let sent = self.sent;
         Stepped {
             device,
-            answer: Answer { refusal: 0, sent },
+            answer: sent.answer(0),
         }
     }
 }

@@ -9,4 +9,5 @@ not-started-spec =
     (tie.spec
     (λ c κs. search needs)
     (λ c κs. search needs)
-    (λ c. simp (c .none .ensures, c .before .zero-record .ensures)))
+    (λ c κs. search needs)
+    (λ c. simp (c .answer .ensures, c .before .none .ensures, c .before .before .zero-record .ensures)))

@@ -8,4 +8,5 @@ refuse-spec =
     tie.close
     (tie.spec
     (λ c κs. search needs)
-    (λ c. simp (c .none .ensures)))
+    (λ c κs. search needs)
+    (λ c. simp (c .answer .ensures, c .before .none .ensures)))

@@ -1,0 +1,2 @@
+pub mod Happenings
+pub mod Lent
