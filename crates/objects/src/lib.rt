@@ -23,118 +23,126 @@ fn only(subindex: u8, o: Object) -> Found
 fn error_list(subindex: u8) -> Found
     ensures { λ r. ⌜ r ≡ objectAt 0x1003 subindex ⌝ }
 {
-    match subindex {
-        0 => Found::At(Object::ErrorCount),
-        1 => Found::At(Object::ErrorEntry(1)),
-        2 => Found::At(Object::ErrorEntry(2)),
-        3 => Found::At(Object::ErrorEntry(3)),
-        4 => Found::At(Object::ErrorEntry(4)),
-        5 => Found::At(Object::ErrorEntry(5)),
-        _ => Found::NoSubindex,
-    }
+    let o = match subindex {
+        0 => Object::ErrorCount,
+        1 => Object::ErrorEntry(1),
+        2 => Object::ErrorEntry(2),
+        3 => Object::ErrorEntry(3),
+        4 => Object::ErrorEntry(4),
+        5 => Object::ErrorEntry(5),
+        _ => return Found::NoSubindex,
+    };
+    Found::At(o)
 }
 
 fn saving(subindex: u8) -> Found
     ensures { λ r. ⌜ r ≡ objectAt 0x1010 subindex ⌝ }
 {
-    match subindex {
-        0 => Found::At(Object::Const(Fixed::SaveCount)),
-        1 => Found::At(Object::Save),
-        _ => Found::NoSubindex,
-    }
+    let o = match subindex {
+        0 => Object::Const(Fixed::SaveCount),
+        1 => Object::Save,
+        _ => return Found::NoSubindex,
+    };
+    Found::At(o)
 }
 
 fn loading(subindex: u8) -> Found
     ensures { λ r. ⌜ r ≡ objectAt 0x1011 subindex ⌝ }
 {
-    match subindex {
-        0 => Found::At(Object::Const(Fixed::LoadCount)),
-        1 => Found::At(Object::Load),
-        _ => Found::NoSubindex,
-    }
+    let o = match subindex {
+        0 => Object::Const(Fixed::LoadCount),
+        1 => Object::Load,
+        _ => return Found::NoSubindex,
+    };
+    Found::At(o)
 }
 
 fn identity(subindex: u8) -> Found
     ensures { λ r. ⌜ r ≡ objectAt 0x1018 subindex ⌝ }
 {
-    match subindex {
-        0 => Found::At(Object::Const(Fixed::IdentityCount)),
-        1 => Found::At(Object::Const(Fixed::Vendor)),
-        2 => Found::At(Object::Const(Fixed::Product)),
-        3 => Found::At(Object::Const(Fixed::Revision)),
-        4 => Found::At(Object::Const(Fixed::Serial)),
-        _ => Found::NoSubindex,
-    }
+    let f = match subindex {
+        0 => Fixed::IdentityCount,
+        1 => Fixed::Vendor,
+        2 => Fixed::Product,
+        3 => Fixed::Revision,
+        4 => Fixed::Serial,
+        _ => return Found::NoSubindex,
+    };
+    Found::At(Object::Const(f))
 }
 
 // 1200 and 1201.
 fn server(channel: Channel, subindex: u8) -> Found
     ensures { λ r. ⌜ r ≡ serverAt channel subindex ⌝ }
 {
-    match subindex {
-        0 => Found::At(Object::Const(Fixed::ServerCount(channel))),
-        1 => Found::At(Object::Const(Fixed::RequestIdentifier(channel))),
-        2 => Found::At(Object::Const(Fixed::ReplyIdentifier(channel))),
-        _ => Found::NoSubindex,
-    }
+    let f = match subindex {
+        0 => Fixed::ServerCount(channel),
+        1 => Fixed::RequestIdentifier(channel),
+        2 => Fixed::ReplyIdentifier(channel),
+        _ => return Found::NoSubindex,
+    };
+    Found::At(Object::Const(f))
 }
 
 fn pdo(subindex: u8) -> Found
     ensures { λ r. ⌜ r ≡ objectAt 0x1800 subindex ⌝ }
 {
-    match subindex {
-        0 => Found::At(Object::Const(Fixed::PdoCount)),
-        1 => Found::At(Object::Of(Setting::On)),
-        2 => Found::At(Object::Of(Setting::Transmission)),
-        5 => Found::At(Object::Of(Setting::Timer)),
-        _ => Found::NoSubindex,
-    }
+    let o = match subindex {
+        0 => Object::Const(Fixed::PdoCount),
+        1 => Object::Of(Setting::On),
+        2 => Object::Of(Setting::Transmission),
+        5 => Object::Of(Setting::Timer),
+        _ => return Found::NoSubindex,
+    };
+    Found::At(o)
 }
 
 fn mapping(subindex: u8) -> Found
     ensures { λ r. ⌜ r ≡ objectAt 0x1A00 subindex ⌝ }
 {
-    match subindex {
-        0 => Found::At(Object::Const(Fixed::MappingCount)),
-        1 => Found::At(Object::Const(Fixed::Mapped(Axis::X))),
-        2 => Found::At(Object::Const(Fixed::Mapped(Axis::Y))),
-        _ => Found::NoSubindex,
-    }
+    let f = match subindex {
+        0 => Fixed::MappingCount,
+        1 => Fixed::Mapped(Axis::X),
+        2 => Fixed::Mapped(Axis::Y),
+        _ => return Found::NoSubindex,
+    };
+    Found::At(Object::Const(f))
 }
 
 pub fn object_at(index: u16, subindex: u8) -> Found
     ensures { λ r. ⌜ r ≡ objectAt index subindex ⌝ }
 {
-    match index {
-        0x1000 => only(subindex, Object::Const(Fixed::DeviceType)),
-        0x1001 => only(subindex, Object::Const(Fixed::ErrorRegister)),
-        0x1003 => error_list(subindex),
-        0x1005 => only(subindex, Object::Const(Fixed::SyncIdentifier)),
-        0x1008 => only(subindex, Object::Name),
-        0x1010 => saving(subindex),
-        0x1011 => loading(subindex),
-        0x1014 => only(subindex, Object::Const(Fixed::EmergencyIdentifier)),
-        0x1017 => only(subindex, Object::Of(Setting::Heartbeat)),
-        0x1018 => identity(subindex),
-        0x1200 => server(Channel::One, subindex),
-        0x1201 => server(Channel::Two, subindex),
-        0x1800 => pdo(subindex),
-        0x1A00 => mapping(subindex),
-        0x2100 => only(subindex, Object::Filled),
-        0x2101 => only(subindex, Object::Const(Fixed::Blocks)),
-        0x6000 => only(subindex, Object::Of(Setting::Resolution)),
-        0x6010 => only(subindex, Object::Angle(Axis::X)),
-        0x6011 => only(subindex, Object::Of(Setting::Operating(Axis::X))),
-        0x6012 => only(subindex, Object::Of(Setting::Preset(Axis::X))),
-        0x6013 => only(subindex, Object::Of(Setting::Offset(Axis::X))),
-        0x6014 => only(subindex, Object::Of(Setting::Differential(Axis::X))),
-        0x6020 => only(subindex, Object::Angle(Axis::Y)),
-        0x6021 => only(subindex, Object::Of(Setting::Operating(Axis::Y))),
-        0x6022 => only(subindex, Object::Of(Setting::Preset(Axis::Y))),
-        0x6023 => only(subindex, Object::Of(Setting::Offset(Axis::Y))),
-        0x6024 => only(subindex, Object::Of(Setting::Differential(Axis::Y))),
-        _ => Found::NoObject,
-    }
+    let o = match index {
+        0x1000 => Object::Const(Fixed::DeviceType),
+        0x1001 => Object::Const(Fixed::ErrorRegister),
+        0x1003 => return error_list(subindex),
+        0x1005 => Object::Const(Fixed::SyncIdentifier),
+        0x1008 => Object::Name,
+        0x1010 => return saving(subindex),
+        0x1011 => return loading(subindex),
+        0x1014 => Object::Const(Fixed::EmergencyIdentifier),
+        0x1017 => Object::Of(Setting::Heartbeat),
+        0x1018 => return identity(subindex),
+        0x1200 => return server(Channel::One, subindex),
+        0x1201 => return server(Channel::Two, subindex),
+        0x1800 => return pdo(subindex),
+        0x1A00 => return mapping(subindex),
+        0x2100 => Object::Filled,
+        0x2101 => Object::Const(Fixed::Blocks),
+        0x6000 => Object::Of(Setting::Resolution),
+        0x6010 => Object::Angle(Axis::X),
+        0x6011 => Object::Of(Setting::Operating(Axis::X)),
+        0x6012 => Object::Of(Setting::Preset(Axis::X)),
+        0x6013 => Object::Of(Setting::Offset(Axis::X)),
+        0x6014 => Object::Of(Setting::Differential(Axis::X)),
+        0x6020 => Object::Angle(Axis::Y),
+        0x6021 => Object::Of(Setting::Operating(Axis::Y)),
+        0x6022 => Object::Of(Setting::Preset(Axis::Y)),
+        0x6023 => Object::Of(Setting::Offset(Axis::Y)),
+        0x6024 => Object::Of(Setting::Differential(Axis::Y)),
+        _ => return Found::NoObject,
+    };
+    only(subindex, o)
 }
 
 // The length in bytes, and whether it is written.
