@@ -1,0 +1,173 @@
+/* The sensor's C interface: power-on, one event on the recorder's own record, and the block query (libbasintilt.a).
+ *
+ * Duties of the caller, at every call:
+ *  - no pointer is null, also where its length is 0; each is aligned for its type;
+ *  - device and journal do not overlap, and nothing else reads or writes them during the call;
+ *  - a length is that of the memory behind its pointer.
+ * Any number may stand in any field: what is out of range is refused, and then record and journal are untouched. */
+#ifndef BASINTILT_H
+#define BASINTILT_H
+
+#include <stddef.h>
+#include <stdint.h>
+
+/* Refusals. */
+enum {
+    BASINTILT_ACCEPTED = 0,
+    BASINTILT_WRONG_LENGTH = 1,   /* journal length not 512 times 1 to 128, or not the length at power-on */
+    BASINTILT_WRONG_FRAME = 2,    /* identifier over 7FFh or length over 8 */
+    BASINTILT_OUT_OF_RANGE = 3,   /* a field of the record outside its range */
+    BASINTILT_WRONG_NODE = 4      /* node not 1 to 47 */
+};
+
+/* Kinds of happenings; any other number does nothing. */
+enum {
+    BASINTILT_FRAME = 0,
+    BASINTILT_REMOTE_FRAME = 1,
+    BASINTILT_TICK = 2,
+    BASINTILT_READING_X = 3,
+    BASINTILT_READING_Y = 4
+};
+
+/* Answers of the block query. */
+enum { BASINTILT_GOOD = 0, BASINTILT_BLANK = 1, BASINTILT_NEITHER = 2 };
+
+/* Numbers of the record: NMT states, transfers, axes. */
+enum { BASINTILT_STOPPED = 4, BASINTILT_OPERATIONAL = 5, BASINTILT_PRE_OPERATIONAL = 127 };
+enum { BASINTILT_ABSENT = 0, BASINTILT_AT_START = 1, BASINTILT_AFTER_SEVEN = 2 };
+enum { BASINTILT_NONE = 0, BASINTILT_GOOD_AXIS = 1, BASINTILT_FAULTY = 2 };
+
+enum { BASINTILT_BLOCK_BYTES = 512, BASINTILT_MOST_BLOCKS = 128, BASINTILT_MOST_NODE = 47, BASINTILT_MOST_ERRORS = 5 };
+
+/* 6011 to 6014, or 6021 to 6024. */
+struct basintilt_axis_settings {
+    uint8_t operating;
+    int16_t preset;
+    int16_t offset;
+    int16_t differential;
+};
+
+/* 1800: on is 1 or 0, transmission is subindex 2, timer subindex 5. */
+struct basintilt_pdo_settings {
+    uint8_t on;
+    uint8_t transmission;
+    uint16_t timer;
+};
+
+struct basintilt_settings {
+    uint16_t heartbeat; /* 1017 */
+    struct basintilt_pdo_settings pdo;
+    uint16_t resolution; /* 6000 */
+    struct basintilt_axis_settings x;
+    struct basintilt_axis_settings y;
+};
+
+/* 1018. */
+struct basintilt_identity {
+    uint32_t vendor;
+    uint32_t product;
+    uint32_t revision;
+    uint32_t serial;
+};
+
+struct basintilt_pdo_counts {
+    uint16_t elapsed;
+    uint8_t syncs;
+};
+
+/* What the record keeps of the journal; spoiled is 1 or 0. */
+struct basintilt_saves {
+    uint16_t blocks;
+    uint16_t filled;
+    uint8_t spoiled;
+    struct basintilt_settings stored;
+};
+
+/* The error list, newest first; 0 past its length. */
+struct basintilt_errors {
+    uint8_t length;
+    uint16_t codes[BASINTILT_MOST_ERRORS];
+};
+
+/* An axis and its last good reading, in thousandths of a degree. */
+struct basintilt_reading {
+    uint8_t state;
+    int32_t m;
+};
+
+struct basintilt_device {
+    uint8_t node;
+    uint8_t network;
+    uint8_t one;
+    uint8_t two;
+    uint16_t heartbeat;
+    struct basintilt_pdo_counts pdo;
+    struct basintilt_identity identity;
+    struct basintilt_saves saves;
+    struct basintilt_settings running;
+    struct basintilt_errors errors;
+    struct basintilt_reading x;
+    struct basintilt_reading y;
+};
+
+/* A sent frame; the bytes past its length are 0. */
+struct basintilt_frame {
+    uint16_t identifier;
+    uint8_t length;
+    uint8_t bytes[8];
+};
+
+/* The refusal, and 0 to 2 frames; the frames past the count are all zero. */
+struct basintilt_answer {
+    uint8_t refusal;
+    uint8_t count;
+    struct basintilt_frame first;
+    struct basintilt_frame second;
+};
+
+struct basintilt_stepped {
+    struct basintilt_device device;
+    struct basintilt_answer answer;
+};
+
+/* A frame has identifier, length (9 can be said) and bytes; a tick ms; a reading m. What its kind does not use is ignored. */
+struct basintilt_happening {
+    uint8_t kind;
+    uint8_t length;
+    uint16_t ms;
+    uint32_t identifier;
+    int32_t m;
+    uint8_t bytes[8];
+};
+
+_Static_assert(sizeof(struct basintilt_axis_settings) == 8, "axis settings");
+_Static_assert(sizeof(struct basintilt_pdo_settings) == 4, "PDO settings");
+_Static_assert(sizeof(struct basintilt_settings) == 24, "settings");
+_Static_assert(offsetof(struct basintilt_settings, x) == 8, "settings of X");
+_Static_assert(sizeof(struct basintilt_saves) == 30, "saves");
+_Static_assert(offsetof(struct basintilt_saves, stored) == 6, "stored settings");
+_Static_assert(sizeof(struct basintilt_errors) == 12, "error list");
+_Static_assert(sizeof(struct basintilt_reading) == 8, "reading");
+_Static_assert(sizeof(struct basintilt_device) == 112, "device record");
+_Static_assert(offsetof(struct basintilt_device, pdo) == 6, "PDO counts");
+_Static_assert(offsetof(struct basintilt_device, identity) == 12, "identity");
+_Static_assert(offsetof(struct basintilt_device, saves) == 28, "saves in the record");
+_Static_assert(offsetof(struct basintilt_device, running) == 58, "running settings");
+_Static_assert(offsetof(struct basintilt_device, errors) == 82, "error list in the record");
+_Static_assert(offsetof(struct basintilt_device, x) == 96, "axis X");
+_Static_assert(sizeof(struct basintilt_frame) == 12, "frame");
+_Static_assert(sizeof(struct basintilt_answer) == 26, "answer");
+_Static_assert(sizeof(struct basintilt_stepped) == 140, "stepped");
+_Static_assert(offsetof(struct basintilt_stepped, answer) == 112, "answer behind the record");
+_Static_assert(sizeof(struct basintilt_happening) == 20, "happening");
+
+/* The record that the journal gives, and boot-up; a refused power-on gives the all-zero record. The journal is only read. */
+struct basintilt_stepped basintilt_power_on(uint32_t node, struct basintilt_identity identity, const uint8_t *journal, size_t journal_length);
+
+/* One event: the record behind the pointer is updated; a save or a load fills one block of the journal. */
+struct basintilt_answer basintilt_event(struct basintilt_device *device, uint8_t *journal, size_t journal_length, struct basintilt_happening happening);
+
+/* What a block is at the place it should have, counted from 1. */
+uint32_t basintilt_block(const uint8_t *block, size_t block_length, uint32_t place);
+
+#endif
