@@ -1,0 +1,3 @@
+-- Document 01, "Sample values": the lines of the trace program.
+pub mod Texts
+pub mod Printing
