@@ -1,2 +1,4 @@
+pub mod Digits
+pub mod Fields
 pub mod Longer
 pub mod Printed

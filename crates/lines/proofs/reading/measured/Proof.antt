@@ -1,0 +1,70 @@
+-- `measured` meets its contract: a sign or none, and the digits behind it.
+use mathlib.Core.Path.{sym, _∙_}
+use Prim.Native.Nat.{_≤_}
+use borrow.Author.Tests.{eq-eqb, ne-eqb}
+use lib.ListN.{length, getD}
+use denote.Ref.{now}
+use Rattle.lines.specs.Reading.{measured}
+use Rattle.lines.proofs.Fields.{inside, rest}
+use borrow.Author.Needs.{needs}
+use Rattle.lines.proofs.reading.measured.Statement.{statement}
+use Rattle.lines.proofs.reading.measured.Tie as tie
+
+-- a field with a sign is not empty
+signed : (c : tie.Then1) → 1 ≤ length (now (c .before .before .before .args .field))
+signed c = inside (now (c .before .before .before .args .field)) 0 _ (sym (c .before .byte-at .ensures) ∙ c .if1 .taken)
+
+byte-at-requires : tie.Need-byte-at-requires
+byte-at-requires c κs = search needs
+
+sub-decimal-in : tie.Need-sub-decimal-in
+sub-decimal-in c = signed c
+
+part-decimal-in-start : tie.Need-part-decimal-in-start
+part-decimal-in-start c = signed c
+
+part-decimal-in-end : tie.Need-part-decimal-in-end
+part-decimal-in-end c = search needs
+
+decimal-in-requires : tie.Need-decimal-in-requires
+decimal-in-requires c κs = search needs
+
+negative-requires : tie.Need-negative-requires
+negative-requires c κs = search needs
+
+returns : tie.Need-returns
+unfolding measured
+returns c =
+    let d = c .before .before .before in
+    let s = now (d .before .before .before .args .field) in
+    simp
+    (c .negative .ensures, c .before .decimal-in .ensures, rest s 1, eq-eqb (getD s 0 0) 0x2D (sym (d .before .byte-at .ensures) ∙ d .if1 .taken))
+
+decimal-in-requires-2 : tie.Need-decimal-in-requires-2
+decimal-in-requires-2 c κs = search needs
+
+positive-requires : tie.Need-positive-requires
+positive-requires c κs = search needs
+
+returns-2 : tie.Need-returns-2
+unfolding measured
+returns-2 c =
+    let d = c .before .before in
+    let s = now (d .before .before .before .args .field) in
+    simp
+    (c .positive .ensures, c .before .decimal-in2 .ensures, ne-eqb (getD s 0 0) 0x2D (λ e. d .if1 .left (d .before .byte-at .ensures ∙ e)))
+
+pub measured-spec : {M : Type 1} → statement M
+measured-spec =
+    tie.close
+    (tie.spec
+    byte-at-requires
+    sub-decimal-in
+    part-decimal-in-start
+    part-decimal-in-end
+    decimal-in-requires
+    negative-requires
+    returns
+    decimal-in-requires-2
+    positive-requires
+    returns-2)
