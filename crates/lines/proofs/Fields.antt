@@ -1,6 +1,6 @@
 -- Laws of a line's fields: where the first ends, what is left behind it, and the three kinds of a frame's line.
-use mathlib.Core.Path.{_≡_, refl, sym, ap, _∙_}
-use mathlib.Core.Bool.{Bool, true, false}
+use mathlib.Core.Path.{_≡_}
+use mathlib.Core.Bool.{true, false}
 use mathlib.Core.List.{List, [], _∷_}
 use Prim.Native.Nat.{ℕ, zero, suc, _+_, _-_, _/_, _%_, _≤_, _<_}
 use native.Mathlib.Numerals.{add-one}
@@ -13,10 +13,10 @@ use Rattle.laws.proofs.Bools.{first-of, one-of}
 use Rattle.laws.specs.Lists.{elements}
 use Rattle.rules.proofs.Numbers.{to-most}
 use Rattle.rules.specs.Numbers.{between}
-use Rattle.lines.specs.declared.reading.Line.the-variants.{Malformed}
-use Rattle.lines.specs.Numerals.{bytesIn, digits}
+use Rattle.lines.specs.declared.Line.the-variants.{Malformed}
+use Rattle.numerals.specs.Numerals.{bytesIn, digits}
 use Rattle.lines.specs.Reading.{frame, frameOf, identifierIn, joined, plain, received, untilBlank}
-use Rattle.lines.proofs.Digits.{bytes-count}
+use Rattle.numerals.proofs.Digits.{bytes-count}
 
 -- what is not 0 stands inside
 pub inside : (s : List ℕ) (i b : ℕ) → getD s i 0 ≡ suc b → i < length s

@@ -1,4 +1,3 @@
-pub mod Digits
+pub mod Collecting
 pub mod Fields
-pub mod Longer
-pub mod Printed
+pub mod Long

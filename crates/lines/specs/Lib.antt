@@ -1,5 +1,3 @@
--- Document 01, "Sample values": the lines of the trace program.
-pub mod Texts
-pub mod Numerals
+-- Document 01, "Sample values": the lines that the trace program reads.
 pub mod Reading
-pub mod Printing
+pub mod Collecting

@@ -10,12 +10,12 @@ use Rattle.rules.specs.declared.events.Event.the-variants.{Received, Tick, Meas
 use Rattle.rules.specs.declared.objects.Axis.{Axis}
 use Rattle.rules.specs.declared.objects.Axis.the-variants.{X, Y}
 use Rattle.rules.specs.Numbers.{between, minus}
-use Rattle.lines.specs.declared.numerals.Number.{Number}
-use Rattle.lines.specs.declared.numerals.Number.the-variants.{Of, Not}
-use Rattle.lines.specs.declared.reading.Line.{Line}
-use Rattle.lines.specs.declared.reading.Line.the-variants.{PowerOn, Happens, Malformed}
-use Rattle.lines.specs.declared.reading.Parsed.{Parsed}
-use Rattle.lines.specs.Numerals.{bytesIn, decimalIn, digits, numberIn}
+use Rattle.numerals.specs.declared.Number.{Number}
+use Rattle.numerals.specs.declared.Number.the-variants.{Of, Not}
+use Rattle.lines.specs.declared.Line.{Line}
+use Rattle.lines.specs.declared.Line.the-variants.{PowerOn, Happens, Malformed}
+use Rattle.lines.specs.declared.Parsed.{Parsed}
+use Rattle.numerals.specs.Numerals.{bytesIn, decimalIn, digits, numberIn}
 
 -- a line that brings no bytes
 abbrev pub plain : Line → Parsed
@@ -55,31 +55,40 @@ identifierIn field = cond (leb (length field) 8) (numberIn 16 field) Not
 unfoldable pub joined : List ℕ → Bool
 joined field = digits 16 field && eqb (length field % 2) 0 && between 1 9 (length field / 2)
 
--- a frame that is not remote: its first eight bytes, and how many it has
+-- a frame that is not remote, with its first eight bytes and their count; without an identifier there is none
 abbrev pub received : Number → List ℕ → ℕ → Parsed
 received (Of n) bytes count = record { line = Happens (Received (record { identifier = n; remote = false })); bytes = bytes; length = count }
 received Not bytes count = plain Malformed
 
--- "F, an identifier … and, if any, 1 to 9 bytes": the bytes, if any, behind the first blank
 unfoldable pub frameOf : Number → List ℕ → Parsed
 frameOf number bytes = received number (elements 8 0 bytes) (length bytes)
 
+-- "F, an identifier … and, if any, 1 to 9 bytes": the identifier alone, or a blank and bytes behind it
 unfoldable pub frame : List ℕ → Parsed
 frame field =
     cond (eqb (untilBlank field) (length field) || joined (drop (untilBlank field + 1) field))
     (frameOf (identifierIn (take (untilBlank field) field)) (bytesIn (drop (untilBlank field + 1) field)))
     (plain Malformed)
 
--- the letters P, F, T, X, Y; "5 line of none of the forms"
-unfoldable pub form : ℕ → List ℕ → Parsed
-form letter field =
-    cond (eqb letter 0x50) (plain (powerOn field))
-    (cond (eqb letter 0x46) (frame field)
-    (cond (eqb letter 0x54) (plain (tickOf (decimalIn field)))
-    (cond (eqb letter 0x58) (plain (measured X field))
-    (cond (eqb letter 0x59) (plain (measured Y field))
-    (plain Malformed)))))
+-- the letters P, T, X, Y, none of which brings bytes; "line of none of the forms"
+unfoldable pub lineOf : ℕ → List ℕ → Line
+lineOf letter field =
+    cond (eqb letter 0x50) (powerOn field)
+    (cond (eqb letter 0x54) (tickOf (decimalIn field))
+    (cond (eqb letter 0x58) (measured X field)
+    (cond (eqb letter 0x59) (measured Y field)
+    Malformed)))
 
--- a letter, a blank, and what is left
+-- the letter F
+unfoldable pub form : ℕ → List ℕ → Parsed
+form letter field = cond (eqb letter 0x46) (frame field) (plain (lineOf letter field))
+
+-- a letter, a blank, and the fields behind it
 unfoldable pub parsed : List ℕ → Parsed
 parsed line = cond (eqb (getD line 1 0) 0x20) (form (getD line 0 0) (drop 2 line)) (plain Malformed)
+
+-- "5 (trace program only) line of none of the forms under Sample values"; "0 accepted" as far as the form goes
+abbrev pub refusalOf : Line → ℕ
+refusalOf (PowerOn node) = 0
+refusalOf (Happens event) = 0
+refusalOf Malformed = 5
