@@ -1,2 +1,3 @@
+-- Laws of held and printed lines.
 pub mod Longer
 pub mod Printed
