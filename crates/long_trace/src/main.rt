@@ -1,0 +1,4 @@
+// The trace program, run on a long input whose output the reference sensor gave.
+fn main() {
+    bench::follow();
+}
