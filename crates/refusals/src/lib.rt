@@ -1,0 +1,1 @@
+// Theorems only: demand 1, the refusals, and that a sensor which works once works on.
