@@ -13,6 +13,10 @@ pub not-true : (b : Bool) → (b ≡ true → ⊥) → b ≡ false
 not-true true h = absurd (h refl)
 not-true false h = refl
 
+pub not-false : (b : Bool) → (b ≡ false → ⊥) → b ≡ true
+not-false true h = refl
+not-false false h = absurd (h refl)
+
 pub both : {a b : Bool} → a ≡ true → b ≡ true → a && b ≡ true
 both p q = simp (p, q)
 

@@ -49,36 +49,37 @@ blocks-in u range =
     let s = u .saves in
     first-of (between 1 128 (s .blocks)) (leb (s .filled) (s .blocks) ∷ leb (s .spoiled) 1 ∷ inTable (s .stored) ∷ []) (parts u range .saves)
 
+-- a record in range, beside a journal of its length
+module _ (u : State) (range : inRange u ≡ true) where
+  pub right-record : ¬ WrongRecord u
+  right-record out = no (sym out ∙ range)
+
+  pub right-journal : journalFits u ≡ true → ¬ WrongJournal u
+  right-journal fits =
+      let blocks = u .saves .blocks in
+      let some = blocks-in u range in
+      let same = eqb-true (length (u .journal)) (512 * blocks) fits in
+      ⊎-elim (λ x. x blocks (from-least 1 128 blocks some) (to-most 1 128 blocks some) same) (λ x. x same)
+
 module _ (bytes : List ℕ) (n : ℕ) (u : State) where
   abbrev Event-sorted : Event → Result → Type 0
   Event-sorted e r = Sorted 3 (WrongRecord u) (WrongJournal u) (WrongFrame e n) (r .refusal)
 
-  module _ (range : inRange u ≡ true) where
-    right-record : ¬ WrongRecord u
-    right-record out = no (sym out ∙ range)
+  module _ (range : inRange u ≡ true) (fits : journalFits u ≡ true) where
+    frame-sorted : (f : FrameHead) (t : Bool) → frameOk f n ≡ t → Event-sorted (Received f) (cond t (onFrame f bytes n u) (refused 2 u))
+    frame-sorted f true e = by-none (frame-accepted u f bytes n .0) (right-record u range) (right-journal u range fits) (right-frame f n e)
+    frame-sorted f false e = by-third refl (right-record u range) (right-journal u range fits) (wrong-frame f n e)
 
-    module _ (fits : journalFits u ≡ true) where
-      right-journal : ¬ WrongJournal u
-      right-journal =
-          let blocks = u .saves .blocks in
-          let some = blocks-in u range in
-          let same = eqb-true (length (u .journal)) (512 * blocks) fits in
-          ⊎-elim (λ x. x blocks (from-least 1 128 blocks some) (to-most 1 128 blocks some) same) (λ x. x same)
-
-      frame-sorted : (f : FrameHead) (t : Bool) → frameOk f n ≡ t → Event-sorted (Received f) (cond t (onFrame f bytes n u) (refused 2 u))
-      frame-sorted f true e = by-none (frame-accepted u f bytes n .0) right-record right-journal (right-frame f n e)
-      frame-sorted f false e = by-third refl right-record right-journal (wrong-frame f n e)
-
-      kind-sorted : (e : Event) → Event-sorted e (onEvent e bytes n u)
-      kind-sorted (Received f) = frame-sorted f (frameOk f n) refl
-      kind-sorted (Tick ms) = by-none (tick-accepted u ms .0) right-record right-journal (λ x. x)
-      kind-sorted (Measured a m) = by-none (reading-accepted u a m .0) right-record right-journal (λ x. x)
+    kind-sorted : (e : Event) → Event-sorted e (onEvent e bytes n u)
+    kind-sorted (Received f) = frame-sorted f (frameOk f n) refl
+    kind-sorted (Tick ms) = by-none (tick-accepted u ms .0) (right-record u range) (right-journal u range fits) (λ x. x)
+    kind-sorted (Measured a m) = by-none (reading-accepted u a m .0) (right-record u range) (right-journal u range fits) (λ x. x)
 
   event-sorted : (e : Event) (a b : Bool) → inRange u ≡ a → journalFits u ≡ b → Event-sorted e (event e bytes n u)
   event-sorted e false b out other = rw (range-first e bytes n u out) (by-first refl out)
   event-sorted e true false range other =
       rw (length-second e bytes n u range other)
-      (by-second refl (right-record range) (inr (eqb-false (length (u .journal)) (512 * u .saves .blocks) other)))
+      (by-second refl (right-record u range) (inr (eqb-false (length (u .journal)) (512 * u .saves .blocks) other)))
   event-sorted e true true range fits = rw (then-its-kind e bytes n u range fits) (kind-sorted range fits e)
 
 pub event-rows : EventRows

@@ -24,6 +24,24 @@ abbrev pub after : List Given → State → State
 after [] u = u
 after (g ∷ gs) u = after gs (event (g .event) (g .bytes) (g .length) u .state)
 
+-- the record beside another journal that is lent
+abbrev pub lent : List ℕ → State → State
+lent j u = record {
+  node = u .node;
+  identity = u .identity;
+  network = u .network;
+  saves = u .saves;
+  running = u .running;
+  errors = u .errors;
+  heartbeat = u .heartbeat;
+  pdo = u .pdo;
+  one = u .one;
+  two = u .two;
+  x = u .x;
+  y = u .y;
+  journal = j;
+}
+
 -- an accepted event keeps the record in range and the journal's length
 abbrev pub StaysInRange : Type 0
 StaysInRange =
@@ -32,7 +50,7 @@ StaysInRange =
     let v = event e bytes n u .state in
     (inRange v ≡ true) × (length (v .journal) ≡ length (u .journal))
 
--- after an accepted power-on and any events, nothing but a wrong frame is refused
+-- after an accepted power-on and any events nothing is refused but a wrong frame, and a journal of "not the length at power-on"
 abbrev pub WorksOn : Type 0
 WorksOn =
     (node : ℕ) (identity : Identity) (j : List ℕ) →
@@ -41,4 +59,5 @@ WorksOn =
     let u = after gs (powerOn node identity j .state) in
     (inRange u ≡ true)
     × (length (u .journal) ≡ length j)
-    × ((e : Event) (bytes : List ℕ) (n : ℕ) → (event e bytes n u .refusal ≡ 0 ↔ ¬ WrongFrame e n))
+    × ((e : Event) (bytes : List ℕ) (n : ℕ) → event e bytes n u .refusal ≡ 0 ↔ ¬ WrongFrame e n)
+    × ((e : Event) (bytes : List ℕ) (n : ℕ) (k : List ℕ) → event e bytes n (lent k u) .refusal ≡ 1 ↔ ¬ (length k ≡ length j))
