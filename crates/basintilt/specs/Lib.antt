@@ -1,2 +1,3 @@
 pub mod Happenings
 pub mod Lent
+pub mod Told

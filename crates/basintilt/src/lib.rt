@@ -8,11 +8,10 @@ use rules::journal::Judged;
 use rules::objects::Axis;
 use rules::parts::Identity;
 ghost use mathlib.Core.Path.{_≡_};
-ghost use Rattle.device.specs.Answers.{steppedOf};
-ghost use Rattle.rules.specs.Block.{judged, judgedNumber};
-ghost use Rattle.rules.specs.PowerOn.{powerOn};
+ghost use Rattle.device.specs.Promise.{PoweredOn};
 ghost use Rattle.basintilt.specs.Happenings.{eventOf, bytesIn};
 ghost use Rattle.basintilt.specs.Lent.{stepOf, journalOf, Lent};
+ghost use Rattle.basintilt.specs.Told.{Told};
 
 // An event in numbers. Kind 0 is a frame, 1 a remote frame (identifier, length and bytes), 2 a tick (ms), 3 and 4 a reading of
 // axis X and Y (m); any other number is a remote frame of identifier 0 and length 0, which does nothing.
@@ -89,7 +88,7 @@ pub extern "C" fn basintilt_event(
 // The record comes back by value; the journal is only read.
 #[no_mangle]
 pub extern "C" fn basintilt_power_on(node: u32, identity: Identity, journal: &[u8]) -> Stepped
-    ensures { λ r. ⌜ r ≡ steppedOf (powerOn node identity (now (journal .entry))) ⌝ }
+    ensures { λ r. ⌜ PoweredOn node identity (now (journal .entry)) r ⌝ }
 {
     Device::power_on(node, identity, journal)
 }
@@ -97,7 +96,7 @@ pub extern "C" fn basintilt_power_on(node: u32, identity: Identity, journal: &[u
 // A lent block and the place it should have: 0 good there, 1 blank, 2 neither.
 #[no_mangle]
 pub extern "C" fn basintilt_block(block: &[u8], place: u32) -> u32
-    ensures { λ r. ⌜ r ≡ judgedNumber (judged place (now (block .entry))) ⌝ }
+    ensures { λ r. ⌜ Told (now (block .entry)) place r ⌝ }
 {
     let answer = block::judge(block, place);
     match answer {

@@ -1,4 +1,3 @@
-pub mod Accepted
 pub mod Acted
 pub mod Beside
 pub mod Views
