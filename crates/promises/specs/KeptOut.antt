@@ -1,0 +1,1 @@
+-- Demand 2: the sensors that it keeps out.

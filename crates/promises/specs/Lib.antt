@@ -1,0 +1,3 @@
+pub mod OneResult
+pub mod Untouched
+pub mod KeptOut

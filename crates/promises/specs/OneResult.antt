@@ -1,0 +1,33 @@
+-- Demand 2: "Any two results that satisfy one promise are proved identical", one statement an exported routine.
+use mathlib.Core.Path.{_≡_}
+use mathlib.Core.List.{List}
+use Prim.Native.Nat.{ℕ}
+use Rattle.basintilt.specs.declared.Happening.{Happening}
+use Rattle.basintilt.specs.Lent.{Lent}
+use Rattle.basintilt.specs.Told.{Told}
+use Rattle.device.specs.declared.Answer.{Answer}
+use Rattle.device.specs.declared.Device.{Device}
+use Rattle.device.specs.declared.Stepped.{Stepped}
+use Rattle.device.specs.Promise.{Answered, PoweredOn}
+use Rattle.rules.specs.declared.events.Event.{Event}
+use Rattle.rules.specs.declared.parts.Identity.{Identity}
+
+-- `Device::power_on` and, for C, `basintilt_power_on`
+abbrev pub OnePowerOn : Type 0
+OnePowerOn = (node : ℕ) (identity : Identity) (j : List ℕ) (r s : Stepped) → PoweredOn node identity j r → PoweredOn node identity j s → r ≡ s
+
+-- `Device::event`: the record and the answer, and every byte of the journal
+abbrev pub OneEvent : Type 0
+OneEvent =
+    (d : Device) (j : List ℕ) (e : Event) (bytes : List ℕ) (length : ℕ) (r s : Stepped) (k l : List ℕ) →
+    Answered d j e bytes length r k → Answered d j e bytes length s l → (r ≡ s) × (k ≡ l)
+
+-- `basintilt_event`: the answer, the lent record and every byte of the journal
+abbrev pub OneLentEvent : Type 0
+OneLentEvent =
+    (d : Device) (j : List ℕ) (h : Happening) (r s : Answer) (a b : Device) (k l : List ℕ) →
+    Lent d j h r a k → Lent d j h s b l → (r ≡ s) × (a ≡ b) × (k ≡ l)
+
+-- `basintilt_block`
+abbrev pub OneBlock : Type 0
+OneBlock = (block : List ℕ) (place : ℕ) (r s : ℕ) → Told block place r → Told block place s → r ≡ s
