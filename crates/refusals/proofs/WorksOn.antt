@@ -8,8 +8,8 @@ use borrow.Author.Tests.{eqb-true, eqb-false, eq-eqb}
 use lib.ListN.{length}
 use Rattle.laws.proofs.Bools.{not-false}
 use Rattle.rules.proofs.Refusals.{event-left, power-on-journal}
+use Rattle.rules.proofs.Stays.{Fine, fine-stays, start-stays}
 use Rattle.rules.specs.declared.events.Event.{Event}
-use Rattle.rules.specs.declared.parts.Identity.{Identity}
 use Rattle.rules.specs.Events.{journalFits, event}
 use Rattle.rules.specs.PowerOn.{powerOn}
 use Rattle.rules.specs.Ranges.{inRange}
@@ -17,67 +17,60 @@ use Rattle.rules.specs.State.{State}
 use Rattle.refusals.specs.WorksOn.{Given, after, lent, StaysInRange, WorksOn}
 use Rattle.refusals.proofs.EventRows.{event-rows, right-record, right-journal}
 
-module _
-    (event-stays : (e : Event) (bytes : List ℕ) (n : ℕ) (u : State) → inRange u ≡ true → journalFits u ≡ true → (inRange (event e bytes n u .state) ≡ true) × (journalFits (event e bytes n u .state) ≡ true))
-    (start-stays : (node : ℕ) (identity : Identity) (j : List ℕ) → powerOn node identity j .refusal ≡ 0 → (inRange (powerOn node identity j .state) ≡ true) × (journalFits (powerOn node identity j .state) ≡ true)) where
-  -- a record in range beside a journal of its length
-  abbrev Works : State → Type 0
-  Works u = (inRange u ≡ true) × (journalFits u ≡ true)
+-- the same number of blocks is the same length
+length-kept : (u v : State) → Fine u → Fine v → v .saves .blocks ≡ u .saves .blocks → length (v .journal) ≡ length (u .journal)
+length-kept u v was is same =
+    let before = eqb-true (length (u .journal)) (512 * u .saves .blocks) (was .1) in
+    let now = eqb-true (length (v .journal)) (512 * v .saves .blocks) (is .1) in
+    now ∙ ap (λ (k : ℕ). 512 * k) same ∙ sym before
 
-  -- the same number of blocks is the same length
-  length-kept : (u v : State) → Works u → Works v → v .saves .blocks ≡ u .saves .blocks → length (v .journal) ≡ length (u .journal)
-  length-kept u v was is same =
-      let before = eqb-true (length (u .journal)) (512 * u .saves .blocks) (was .1) in
-      let now = eqb-true (length (v .journal)) (512 * v .saves .blocks) (is .1) in
-      now ∙ ap (λ (k : ℕ). 512 * k) same ∙ sym before
+after-fine : (gs : List Given) (u : State) → Fine u → Fine (after gs u) × (after gs u .saves .blocks ≡ u .saves .blocks)
+after-fine [] u fine = (fine, refl)
+after-fine (g ∷ gs) u fine =
+    let next = event (g .event) (g .bytes) (g .length) u .state in
+    let rest = after-fine gs next (fine-stays u fine (g .event) (g .bytes) (g .length)) in
+    (rest .0, rest .1 ∙ event-left (g .bytes) (g .length) u (g .event) .1)
 
-  after-works : (gs : List Given) (u : State) → Works u → Works (after gs u) × (after gs u .saves .blocks ≡ u .saves .blocks)
-  after-works [] u works = (works, refl)
-  after-works (g ∷ gs) u works =
-      let next = event (g .event) (g .bytes) (g .length) u .state in
-      let rest = after-works gs next (event-stays (g .event) (g .bytes) (g .length) u (works .0) (works .1)) in
-      (rest .0, rest .1 ∙ event-left (g .bytes) (g .length) u (g .event) .1)
+-- what is accepted is fine
+accepted-fine : (e : Event) (bytes : List ℕ) (n : ℕ) (u : State) → event e bytes n u .refusal ≡ 0 → Fine u
+accepted-fine e bytes n u accepted =
+    let right = event-rows e bytes n u .3 .0 accepted in
+    (not-false (inRange u) (right .0), not-false (journalFits u) (λ other. right .1 (inr (eqb-false (length (u .journal)) (512 * u .saves .blocks) other))))
 
-  -- what is accepted works
-  accepted-works : (e : Event) (bytes : List ℕ) (n : ℕ) (u : State) → event e bytes n u .refusal ≡ 0 → Works u
-  accepted-works e bytes n u accepted =
-      let right = event-rows e bytes n u .3 .0 accepted in
-      (not-false (inRange u) (right .0), not-false (journalFits u) (λ other. right .1 (inr (eqb-false (length (u .journal)) (512 * u .saves .blocks) other))))
+pub stays-in-range : StaysInRange
+stays-in-range e bytes n u accepted =
+    let fine = accepted-fine e bytes n u accepted in
+    let v = event e bytes n u .state in
+    let on = fine-stays u fine e bytes n in
+    (on .0, length-kept u v fine on (event-left bytes n u e .1))
 
-  pub stays-in-range : StaysInRange
-  stays-in-range e bytes n u accepted =
-      let works = accepted-works e bytes n u accepted in
-      let v = event e bytes n u .state in
-      let on = event-stays e bytes n u (works .0) (works .1) in
-      (on .0, length-kept u v works on (event-left bytes n u e .1))
+-- the journal is no part of the range
+range-lent : (u : State) (k : List ℕ) → inRange u ≡ true → inRange (lent k u) ≡ true
+unfolding inRange
+range-lent u k range = range
 
-  -- the journal is no part of the range
-  range-lent : (u : State) (k : List ℕ) → inRange u ≡ true → inRange (lent k u) ≡ true
-  unfolding inRange
-  range-lent u k range = range
+-- a journal of another length than the record's is refused with 1, and no other one
+other-length : (e : Event) (bytes : List ℕ) (n : ℕ) (k : List ℕ) (u : State) → Fine u → event e bytes n (lent k u) .refusal ≡ 1 ↔ ¬ (length k ≡ length (u .journal))
+other-length e bytes n k u fine =
+    let range = range-lent u k (fine .0) in
+    let own = eqb-true (length (u .journal)) (512 * u .saves .blocks) (fine .1) in
+    let row = event-rows e bytes n (lent k u) .1 in (
+      λ given same. right-journal (lent k u) range (eq-eqb (length k) (512 * u .saves .blocks) (same ∙ own)) (row .0 given .1),
+      λ other. row .1 (right-record (lent k u) range, inr (λ fits. other (fits ∙ sym own))),
+    )
 
-  -- a journal of another length than the record's is refused with 1, and no other one
-  other-length : (e : Event) (bytes : List ℕ) (n : ℕ) (k : List ℕ) (u : State) → Works u → event e bytes n (lent k u) .refusal ≡ 1 ↔ ¬ (length k ≡ length (u .journal))
-  other-length e bytes n k u works =
-      let range = range-lent u k (works .0) in
-      let own = eqb-true (length (u .journal)) (512 * u .saves .blocks) (works .1) in
-      let row = event-rows e bytes n (lent k u) .1 in (
-        λ given same. right-journal (lent k u) range (eq-eqb (length k) (512 * u .saves .blocks) (same ∙ own)) (row .0 given .1),
-        λ other. row .1 (right-record (lent k u) range, inr (λ fits. other (fits ∙ sym own))),
-      )
-
-  pub works-on : WorksOn
-  works-on node identity j accepted gs =
-      let start = powerOn node identity j .state in
-      let started = start-stays node identity j accepted in
-      let rest = after-works gs start started in
-      let u = after gs start in
-      let same : length (u .journal) ≡ length j = length-kept start u started (rest .0) (rest .1) ∙ ap length (power-on-journal node identity j) in (
-        rest .0 .0,
-        same,
-        λ e bytes n. (
-          λ accepted. event-rows e bytes n u .3 .0 accepted .2,
-          λ right. event-rows e bytes n u .3 .1 (right-record u (rest .0 .0), right-journal u (rest .0 .0) (rest .0 .1), right),
-        ),
-        λ e bytes n k. rw same at (other-length e bytes n k u (rest .0)),
-      )
+pub works-on : WorksOn
+works-on node identity j accepted gs =
+    let start = powerOn node identity j .state in
+    let started = start-stays node identity j accepted in
+    let rest = after-fine gs start started in
+    let u = after gs start in
+    let same : length (u .journal) ≡ length j = length-kept start u started (rest .0) (rest .1) ∙ ap length (power-on-journal node identity j) in (
+      rest .0 .0,
+      same,
+      λ e bytes n. (
+        λ accepted. event-rows e bytes n u .3 .0 accepted .2,
+        λ right. event-rows e bytes n u .3 .1 (right-record u (rest .0 .0), right-journal u (rest .0 .0) (rest .0 .1), right),
+      ),
+      λ e bytes n k. rw same at (other-length e bytes n k u (rest .0)),
+    )
