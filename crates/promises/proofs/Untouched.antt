@@ -14,7 +14,7 @@ use Rattle.rules.specs.Events.{event}
 use Rattle.rules.specs.PowerOn.{zeroState, powerOn}
 use Rattle.rules.specs.Results.{Result}
 use Rattle.rules.specs.State.{State}
-use Rattle.promises.specs.Untouched.{silent, zeroRecord, LentUntouched, EventUntouched, PowerOnUntouched, ZeroRefused}
+use Rattle.promises.specs.Untouched.{silent, LentUntouched, EventUntouched, PowerOnUntouched, ZeroRefused}
 
 -- a result that is refused, as the answer, the record and the journal that are handed back
 handed-back : (u : State) (r : Result) (a : Answer) (d : Device) (j : List ℕ)
@@ -26,8 +26,7 @@ handed-back : (u : State) (r : Result) (a : Answer) (d : Device) (j : List ℕ)
     → (d ≡ held u) × (j ≡ u .journal) × (a ≡ silent (a .refusal))
 handed-back u r a d j untouched answer record-then journal-then wrong =
     let number : a .refusal ≡ r .refusal = ap (λ (x : Answer). x .refusal) answer in
-    let left = untouched (λ none. wrong (number ∙ none)) in
-    (
+    let left = untouched (λ none. wrong (number ∙ none)) in (
       record-then ∙ ap held (left .0),
       journal-then ∙ ap (λ (v : State). v .journal) (left .0),
       answer ∙ rw (left .1) refl ∙ ap silent (sym number),

@@ -1,1 +1,77 @@
--- Demand 2: the sensors that it keeps out.
+-- Demand 2: the sensors that it keeps out, each as what holds of every sensor of its kind.
+use mathlib.Core.Path.{_≡_}
+use mathlib.Core.Bool.{true, false}
+use mathlib.Core.List.{List, [], _∷_}
+use Prim.Native.Nat.{ℕ, _+_}
+use Rattle.rules.specs.declared.events.Event.{Event}
+use Rattle.rules.specs.declared.events.Event.the-variants.{Received}
+use Rattle.rules.specs.declared.events.Frame.{Frame}
+use Rattle.rules.specs.declared.objects.Channel.{Channel}
+use Rattle.rules.specs.declared.parts.Identity.{Identity}
+use Rattle.rules.specs.Events.{journalFits, event}
+use Rattle.rules.specs.Frames.{requestsAt, replyFrame}
+use Rattle.rules.specs.Numbers.{four}
+use Rattle.rules.specs.PowerOn.{powerOn}
+use Rattle.rules.specs.Ranges.{inRange}
+use Rattle.rules.specs.Results.{Result}
+use Rattle.rules.specs.Service.{served}
+use Rattle.rules.specs.State.{State}
+
+-- what any sensor makes of an event, with its bytes and their number
+abbrev pub Sensor : Type 0
+Sensor = Event → List ℕ → ℕ → State → Result
+
+-- "what comes back and what every lent byte holds then, for all inputs, refused ones too"
+abbrev pub Meets : Sensor → Type 0
+Meets sensor = (e : Event) (bytes : List ℕ) (n : ℕ) (u : State) → sensor e bytes n u ≡ event e bytes n u
+
+-- no sensor of a kind meets demand 2
+abbrev pub KeptOut : (Sensor → Type 0) → Type 0
+KeptOut Kind = (sensor : Sensor) → Kind sensor → ¬ Meets sensor
+
+-- a request on a channel, and a record that serves it
+abbrev pub request : Channel → State → Event
+request c u = Received (record { identifier = requestsAt c + u .node; remote = false })
+
+abbrev pub Serves : State → Type 0
+Serves u = (inRange u ≡ true) × (journalFits u ≡ true) × (served (u .network) ≡ true)
+
+-- "the sensor that refuses all"
+abbrev pub RefusesAll : Sensor → Type 0
+RefusesAll sensor = (e : Event) (bytes : List ℕ) (n : ℕ) (u : State) → ¬ (sensor e bytes n u .refusal ≡ 0)
+
+-- "the one that answers every request with one frame", even if it has one for each channel of each record
+abbrev pub AnswersAlike : Sensor → Type 0
+AnswersAlike sensor =
+    (c : Channel) (u : State) → Serves u → (f : Frame) × ((bytes : List ℕ) → sensor (request c u) bytes 8 u .sent ≡ f ∷ [])
+
+-- "the one that takes events and changes nothing"
+abbrev pub ChangesNothing : Sensor → Type 0
+ChangesNothing sensor = (e : Event) (bytes : List ℕ) (n : ℕ) (u : State) → sensor e bytes n u .state ≡ u
+
+-- "the one that works after power-on for one event only": the next one changes nothing and sends nothing
+abbrev pub WorksOnce : Sensor → Type 0
+WorksOnce sensor =
+    (node : ℕ) (identity : Identity) (j : List ℕ) →
+    powerOn node identity j .refusal ≡ 0 →
+    (e next : Event) (bytes more : List ℕ) (n m : ℕ) →
+    let u = sensor e bytes n (powerOn node identity j .state) .state in
+    (sensor next more m u .state ≡ u) × (sensor next more m u .sent ≡ [])
+
+-- a read of 2100, and its answer: the record's filled blocks
+abbrev pub read2100 : List ℕ
+read2100 = 0x40 ∷ 0x00 ∷ 0x21 ∷ 0 ∷ 0 ∷ 0 ∷ 0 ∷ 0 ∷ []
+
+abbrev pub filledBlocks : Channel → State → Frame
+filledBlocks c u = replyFrame c (u .node) (0x4B ∷ 0x00 ∷ 0x21 ∷ 0 ∷ four (u .saves .filled))
+
+-- "the one whose 2100 is invented": beside some record that serves it answers anything else
+abbrev pub Invents2100 : Sensor → Type 0
+Invents2100 sensor =
+    (c : Channel) × (u : State) × Serves u × ¬ (sensor (request c u) read2100 8 u .sent ≡ filledBlocks c u ∷ [])
+
+-- "Demand 3 alone admits the constant sensor": it changes nothing and gives one answer to everything
+abbrev pub Constant : Sensor → Type 0
+Constant sensor =
+    (refusal : ℕ) × (frames : List Frame)
+    × ((e : Event) (bytes : List ℕ) (n : ℕ) (u : State) → sensor e bytes n u ≡ record { refusal = refusal; state = u; sent = frames })

@@ -4,16 +4,15 @@ use mathlib.Core.Bool.{Bool, true, false}
 use mathlib.Core.List.{List}
 use Prim.Native.Nat.{ℕ, _*_, _≤_, _<_}
 use native.Mathlib.Omega.{arith}
-use borrow.Author.Tests.{eqb-true, eq-eqb}
-use lib.Dec.{eqb}
+use borrow.Author.Tests.{eq-eqb}
 use lib.ListN.{length}
-use Rattle.laws.proofs.Bools.{no, both, left, right}
+use Rattle.laws.proofs.Bools.{no, both}
 use Rattle.rules.proofs.Numbers.{from-least, to-most, in-between}
 use Rattle.rules.proofs.Refusals.{node-first, journal-second, then-starts}
+use Rattle.rules.proofs.Run.{sized}
 use Rattle.rules.specs.declared.parts.Identity.{Identity}
 use Rattle.rules.specs.Journal.{blocksIn, lengthOk}
 use Rattle.rules.specs.Network.{start}
-use Rattle.rules.specs.Numbers.{between}
 use Rattle.rules.specs.PowerOn.{powerOn}
 use Rattle.rules.specs.Ranges.{nodeOk}
 use Rattle.rules.specs.Results.{Result}
@@ -25,18 +24,13 @@ whole : (j : List ℕ) (blocks : ℕ) → 1 ≤ blocks → blocks ≤ 128 → le
 unfolding lengthOk
 whole j blocks low high e =
     let count : blocksIn j ≡ blocks = omega arith in
-    rw (count) (both (in-between low high) (eq-eqb _ _ e))
+    rw count (both (in-between low high) (eq-eqb _ _ e))
 
 wrong-length : (j : List ℕ) → lengthOk j ≡ false → WrongLength j
 wrong-length j other blocks low high e = no (sym other ∙ whole j blocks low high e)
 
 right-length : (j : List ℕ) → lengthOk j ≡ true → ¬ WrongLength j
-unfolding lengthOk
-right-length j e wrong =
-    let some = between 1 128 (blocksIn j) in
-    let same = eqb (length j) (512 * blocksIn j) in
-    let count = left some same e in
-    wrong (blocksIn j) (from-least 1 128 (blocksIn j) count) (to-most 1 128 (blocksIn j) count) (eqb-true _ _ (right some same e))
+right-length j e wrong = wrong (blocksIn j) (sized j e .least) (sized j e .most) (sized j e .length)
 
 module _ (node : ℕ) (identity : Identity) (j : List ℕ) where
   abbrev Power-on-sorted : Result → Type 0
