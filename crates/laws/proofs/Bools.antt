@@ -34,6 +34,19 @@ pub either : {P : Type 0} (a b : Bool) → (a ≡ true → P) → (b ≡ true �
 either true b p q e = p refl
 either false b p q e = q e
 
+-- the same of tests as types
+pub parts : (a b : Bool) → T (a && b) → T a × T b
+parts true b t = (tt, t)
+parts false b t = absurd t
+
+pub or-left : (a b : Bool) → T a → T (a || b)
+or-left true b t = tt
+or-left false b t = absurd t
+
+pub or-right : (a b : Bool) → T b → T (a || b)
+or-right true b t = tt
+or-right false b t = t
+
 -- tests in a row, bracketed as `&&` is, and any one of them by its place
 abbrev pub row : Bool → List Bool → Bool
 row t [] = t
