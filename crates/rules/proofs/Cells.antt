@@ -3,7 +3,7 @@ use mathlib.Core.Path.{_≡_, refl}
 use mathlib.Core.Bool.{Bool, true, false, _&&_, _||_}
 use mathlib.Core.List.{List}
 use Prim.Native.Nat.{ℕ}
-use lib.Dec.{T, eqb}
+use lib.Dec.{eqb}
 use Rattle.rules.specs.declared.objects.Axis.the-variants.{X, Y}
 use Rattle.rules.specs.declared.objects.Channel.{Channel}
 use Rattle.rules.specs.declared.objects.Channel.the-variants.{One, Two}
@@ -15,7 +15,6 @@ use Rattle.rules.specs.Cells.{Cell, running, errors, kept, heartbeat, pd
 use Rattle.rules.specs.Objects.{settingRow}
 use Rattle.rules.specs.ReadsWrites.{Value, object, journal, is, readsBy, writesBy}
 use Rattle.rules.specs.Requests.{command, index, subindex}
-use Rattle.rules.specs.State.{State}
 
 abbrev pub sameChannel : Channel → Channel → Bool
 sameChannel One One = true
