@@ -29,6 +29,11 @@ pub cond-both : {A : Type 0} (P : A → Type 0) (t : Bool) {a b : A} → P a →
 cond-both P true p q = p
 cond-both P false p q = q
 
+-- and each of the two may be shown where it is the one that is picked
+pub cond-each : {A : Type 0} (P : A → Type 0) (t : Bool) {a b : A} → (t ≡ true → P a) → (t ≡ false → P b) → P (cond t a b)
+cond-each P true p q = p refl
+cond-each P false p q = q refl
+
 -- what follows from each of two tests follows where one of them holds
 pub either : {P : Type 0} (a b : Bool) → (a ≡ true → P) → (b ≡ true → P) → a || b ≡ true → P
 either true b p q e = p refl
