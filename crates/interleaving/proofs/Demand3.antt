@@ -2,16 +2,15 @@
 use mathlib.Core.Path.{_≡_, refl, ap, sym, _∙_, subst}
 use mathlib.Core.Bool.{Bool, true, false, cond, not, _&&_}
 use mathlib.Core.List.{List, [], _∷_}
-use Prim.Native.Nat.{ℕ, _+_}
-use lib.Dec.{T, eqb, leb}
+use Prim.Native.Nat.{ℕ}
+use lib.Dec.{eqb, leb}
 use borrow.Author.Tests.{eqb-true}
 use Rattle.laws.proofs.Bools.{no}
 use Rattle.rules.proofs.Frames.{request-received}
-use Rattle.rules.specs.declared.events.Event.{Event}
+use Rattle.rules.proofs.Stays.{event-stays}
 use Rattle.rules.specs.declared.objects.Channel.{Channel}
 use Rattle.rules.specs.declared.objects.Channel.the-variants.{One, Two}
-use Rattle.rules.specs.Events.{onService, journalFits, event}
-use Rattle.rules.specs.Ranges.{inRange}
+use Rattle.rules.specs.Events.{onService, event}
 use Rattle.rules.specs.Results.{Result, ignored, refused}
 use Rattle.rules.specs.State.{State}
 use Rattle.interleaving.proofs.Sorted.{does, next, answer, endIn, answersIn, any-order}
@@ -30,39 +29,35 @@ served c false bytes n u true false p q = rw (p, q)
 served c false bytes n u false true p q = no (sym (rw (eqb-true n 8 q) at p))
 served c false bytes n u false false p q = rw p
 
-abbrev Stays : Type 0
-Stays = (e : Event) (bytes : List ℕ) (n : ℕ) (u : State) → inRange u ≡ true → journalFits u ≡ true → (inRange (event e bytes n u .state) ≡ true) × (journalFits (event e bytes n u .state) ≡ true)
+module _ (c : Channel) (f : RunFrame) (u : State) (h : Accepted u) where
+  frame-does : result event (u .node) c f u ≡ does (isRequest f) c f u
+  frame-does =
+      request-received (f .remote) (f .bytes) (f .length) u (h .0) (h .1) c
+      ∙ served c (f .remote) (f .bytes) (f .length) u _ _ refl refl
 
-module _ (event-stays : Stays) where
-  module _ (c : Channel) (f : RunFrame) (u : State) (h : Accepted u) where
-    frame-does : result event (u .node) c f u ≡ does (isRequest f) c f u
-    frame-does =
-        request-received (f .remote) (f .bytes) (f .length) u (h .0) (h .1) c
-        ∙ served c (f .remote) (f .bytes) (f .length) u _ _ refl refl
+  frame-stays : Accepted (next c f u)
+  frame-stays = subst (λ (r : Result). Accepted (r .state)) frame-does (event-stays _ (f .bytes) (f .length) u (h .0) (h .1))
 
-    frame-stays : Accepted (next c f u)
-    frame-stays = subst (λ (r : Result). Accepted (r .state)) frame-does (event-stays _ (f .bytes) (f .length) u (h .0) (h .1))
+  frame-node : next c f u .node ≡ u .node
+  frame-node = node-by (isRequest f)
+    where
+      node-by : (t : Bool) → does t c f u .state .node ≡ u .node
+      node-by true = refl
+      node-by false = refl
 
-    frame-node : next c f u .node ≡ u .node
-    frame-node = node-by (isRequest f)
-      where
-        node-by : (t : Bool) → does t c f u .state .node ≡ u .node
-        node-by true = refl
-        node-by false = refl
+-- so the frames in turns do what `does` says
+runs : (node : ℕ) (turns : List Turn) (u : State) → node ≡ u .node → Accepted u →
+    (endOf event node turns u ≡ endIn turns u) × ((c : Channel) → answers event node c turns u ≡ answersIn c turns u)
+unfolding endOf answers endIn answersIn
+runs node [] u p h = (refl, λ c. refl)
+runs node (turn d f ∷ turns) u p h =
+    let e : result event node d f u ≡ does (isRequest f) d f u = rw p (frame-does d f u h) in
+    let r = runs node turns (next d f u) (p ∙ sym (frame-node d f u h)) (frame-stays d f u h) in
+    rw e (r .0, λ c. ap (add c d (answer d f u)) (r .1 c))
 
-  -- so the frames in turns do what `does` says
-  runs : (node : ℕ) (turns : List Turn) (u : State) → node ≡ u .node → Accepted u →
-      (endOf event node turns u ≡ endIn turns u) × ((c : Channel) → answers event node c turns u ≡ answersIn c turns u)
-  unfolding endOf answers endIn answersIn
-  runs node [] u p h = (refl, λ c. refl)
-  runs node (turn d f ∷ turns) u p h =
-      let e : result event node d f u ≡ does (isRequest f) d f u = rw p (frame-does d f u h) in
-      let r = runs node turns (next d f u) (p ∙ sym (frame-node d f u h)) (frame-stays d f u h) in
-      rw e (r .0, λ c. ap (add c d (answer d f u)) (r .1 c))
-
-  pub demand3 : Demand3
-  demand3 u h ones twos apart turns others a b =
-      let e = any-order ones twos apart turns others a b u in
-      let r = runs (u .node) turns u refl h in
-      let s = runs (u .node) others u refl h in
-      (r .0 ∙ e .0 ∙ sym (s .0), r .1 One ∙ e .1 ∙ sym (s .1 One), r .1 Two ∙ e .2 ∙ sym (s .1 Two))
+pub demand3 : Demand3
+demand3 u h ones twos apart turns others a b =
+    let e = any-order ones twos apart turns others a b u in
+    let r = runs (u .node) turns u refl h in
+    let s = runs (u .node) others u refl h in
+    (r .0 ∙ e .0 ∙ sym (s .0), r .1 One ∙ e .1 ∙ sym (s .1 One), r .1 Two ∙ e .2 ∙ sym (s .1 Two))

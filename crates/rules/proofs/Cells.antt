@@ -4,11 +4,10 @@ use mathlib.Core.Bool.{Bool, true, false, _&&_, _||_}
 use mathlib.Core.List.{List}
 use Prim.Native.Nat.{ℕ}
 use lib.Dec.{eqb}
-use Rattle.rules.specs.declared.objects.Axis.the-variants.{X, Y}
+use Rattle.rules.proofs.Table.{setting-of}
 use Rattle.rules.specs.declared.objects.Channel.{Channel}
 use Rattle.rules.specs.declared.objects.Channel.the-variants.{One, Two}
 use Rattle.rules.specs.declared.objects.Setting.{Setting}
-use Rattle.rules.specs.declared.objects.Setting.the-variants.{Heartbeat, On, Transmission, Timer, Resolution, Operating, Preset, Offset, Differential}
 use Rattle.rules.specs.declared.requests.Command.{Command}
 use Rattle.rules.specs.declared.requests.Command.the-variants.{Write, Read, Segment, End, Unknown}
 use Rattle.rules.specs.Cells.{Cell, running, errors, kept, heartbeat, pdo, transfer, rest, Content, get, stateOf}
@@ -70,19 +69,7 @@ altersOf c request x = alters c (command request) (index request) (subindex requ
 
 -- a state made of cells has these cells
 pub get-of : (f : (k : Cell) → Content k) (k : Cell) → get k (stateOf f) ≡ f k
-get-of f (running Heartbeat) = refl
-get-of f (running On) = refl
-get-of f (running Transmission) = refl
-get-of f (running Timer) = refl
-get-of f (running Resolution) = refl
-get-of f (running (Operating X)) = refl
-get-of f (running (Operating Y)) = refl
-get-of f (running (Preset X)) = refl
-get-of f (running (Preset Y)) = refl
-get-of f (running (Offset X)) = refl
-get-of f (running (Offset Y)) = refl
-get-of f (running (Differential X)) = refl
-get-of f (running (Differential Y)) = refl
+get-of f (running s) = setting-of (λ s. f (running s)) s
 get-of f errors = refl
 get-of f kept = refl
 get-of f heartbeat = refl

@@ -1,12 +1,12 @@
 -- A request leaves every cell that it does not write, its channel's transfer and the counts apart.
-use mathlib.Core.Path.{_≡_, refl}
+use mathlib.Core.Path.{_≡_, refl, subst}
 use mathlib.Core.Bool.{Bool, true, false, cond, _&&_, _||_}
 use mathlib.Core.List.{List}
 use Prim.Native.Nat.{ℕ}
-use lib.Dec.{T, eqb}
+use lib.Dec.{T}
 use lib.IntN.{ℤ}
-use Rattle.laws.proofs.Bools.{cond-both}
 use Rattle.rules.proofs.Cells.{sameChannel, objectOf, isWrite, altersOf}
+use Rattle.rules.proofs.EachOutcome.{each-outcome}
 use Rattle.rules.proofs.Named.{Names, named}
 use Rattle.rules.specs.declared.errors.ErrorList.{ErrorList}
 use Rattle.rules.specs.declared.objects.Axis.{Axis}
@@ -14,7 +14,7 @@ use Rattle.rules.specs.declared.objects.Axis.the-variants.{X, Y}
 use Rattle.rules.specs.declared.objects.Channel.{Channel}
 use Rattle.rules.specs.declared.objects.Channel.the-variants.{One, Two}
 use Rattle.rules.specs.declared.objects.Found.{Found}
-use Rattle.rules.specs.declared.objects.Found.the-variants.{At, NoObject, NoSubindex}
+use Rattle.rules.specs.declared.objects.Found.the-variants.{At}
 use Rattle.rules.specs.declared.objects.Object.{Object}
 use Rattle.rules.specs.declared.objects.Object.the-variants.{Const, ErrorCount, ErrorEntry, Name, Save, Load, Filled, Angle, Of}
 use Rattle.rules.specs.declared.objects.Setting.{Setting}
@@ -22,26 +22,20 @@ use Rattle.rules.specs.declared.objects.Setting.the-variants.{Heartbeat,
 use Rattle.rules.specs.declared.requests.Change.{Change}
 use Rattle.rules.specs.declared.requests.Change.the-variants.{Keep, Put, Fill}
 use Rattle.rules.specs.declared.requests.Command.{Command}
-use Rattle.rules.specs.declared.requests.Command.the-variants.{Write, Read, Segment, End, Unknown}
-use Rattle.rules.specs.declared.requests.Got.{Got}
-use Rattle.rules.specs.declared.requests.Got.the-variants.{Number, Text, Missing}
-use Rattle.rules.specs.declared.requests.Outcome.{Outcome}
-use Rattle.rules.specs.declared.requests.Verdict.{Verdict}
-use Rattle.rules.specs.declared.requests.Verdict.the-variants.{Pass, Abort}
+use Rattle.rules.specs.declared.requests.Command.the-variants.{Write}
 use Rattle.rules.specs.declared.requests.Zeroed.{Zeroed}
 use Rattle.rules.specs.declared.requests.Zeroed.the-variants.{To, Refused}
 use Rattle.rules.specs.declared.settings.Settings.{Settings}
 use Rattle.rules.specs.Block.{save, load}
-use Rattle.rules.specs.Cells.{Kept, Cell, running, errors, kept, heartbeat, pdo, transfer, rest, Content, get}
+use Rattle.rules.specs.Cells.{Kept, Cell, running, errors, kept, heartbeat, pdo, transfer, rest, Content}
 use Rattle.rules.specs.Numbers.{signed}
 use Rattle.rules.specs.Objects.{sameObject, settingRow, rowOf, objectAt}
-use Rattle.rules.specs.Reads.{readOf}
 use Rattle.rules.specs.ReadsWrites.{journal, is, writesBy}
 use Rattle.rules.specs.Requests.{command, index, subindex, valueFor}
-use Rattle.rules.specs.Service.{onWrite, onRead, onSegment, onCommand, outcome, served, valued, zeroedAt, onSetting, onErrors, onKept, onTransfer, act}
+use Rattle.rules.specs.Service.{outcome, valued, zeroedAt, onSetting, onErrors, onKept, onTransfer, act}
 use Rattle.rules.specs.Settings.{Held, factory}
-use Rattle.rules.specs.State.{State, absent, atStart}
-use Rattle.rules.specs.Writes.{zeroedBy, zeroChange, settingChange, change, writeCheck}
+use Rattle.rules.specs.State.{State}
+use Rattle.rules.specs.Writes.{zeroedBy, zeroChange, settingChange, change}
 
 -- what a change leaves: of the settings, the error list and what only a save or a load changes, all that command and numbers do not write
 pub record Leaves (k : Command) (i s : ℕ) (e : Change) : Type 0 where
@@ -118,43 +112,32 @@ module _ (given : ℕ) where
     change-leaves (Angle a) = keep-leaves (Write given) _ _
     change-leaves (Of s) = setting-leaves s
 
--- the outcome of a request, by its command and what is found
+-- the outcome of a request
 module _ (c : Channel) (request : List ℕ) (u : State) where
-  write-leaves : (given : ℕ) (o : Object) (v : ℕ) (verdict : Verdict) →
-      Leaves (Write given) (rowOf o .index) (rowOf o .subindex) (onWrite request verdict (change c o v u) .change)
-  write-leaves given o v Pass = change-leaves given c v u o
-  write-leaves given o v (Abort code) = keep-leaves (Write given) _ _
+  abbrev Left : Change → Type 0
+  Left e = Leaves (command request) (index request) (subindex request) e
 
-  read-leaves : (i s : ℕ) (g : Got) → Leaves Read i s (onRead request g .change)
-  read-leaves i s (Number size n) = keep-leaves Read i s
-  read-leaves i s Text = keep-leaves Read i s
-  read-leaves i s (Missing code) = keep-leaves Read i s
+  wrote-leaves : (given : ℕ) (o : Object) (v : ℕ) → command request ≡ Write given → objectAt (index request) (subindex request) ≡ At o → Left (change c o v u)
+  wrote-leaves given o v p q =
+      let n = subst (λ (f : Found). Names f (index request) (subindex request)) q (named (index request) (subindex request)) in
+      rw (p, n .0, n .1) (change-leaves given c v u o)
 
-  segment-leaves : (toggle t i s : ℕ) → Leaves (Segment toggle) i s (onSegment toggle t .change)
-  unfolding onSegment
-  segment-leaves toggle t i s =
-      let P : Outcome → Type 0 = λ o. Leaves (Segment toggle) i s (o .change) in
-      let keeps = keep-leaves (Segment toggle) i s in
-      cond-both P (eqb t absent) keeps
-      (cond-both P (eqb t atStart) (cond-both P (eqb toggle 0) keeps keeps) (cond-both P (eqb toggle 1) keeps keeps))
-
-  command-leaves : (k : Command) (i s : ℕ) (f : Found) → Names f i s → Leaves k i s (onCommand c request k f u .change)
-  command-leaves (Write given) i s (At o) n =
-      rw (n .0, n .1) (write-leaves given o (valueFor o request) (writeCheck given o (valueFor o request) u))
-  command-leaves (Write given) i s NoObject n = keep-leaves (Write given) i s
-  command-leaves (Write given) i s NoSubindex n = keep-leaves (Write given) i s
-  command-leaves Read i s (At o) n = read-leaves i s (readOf o u)
-  command-leaves Read i s NoObject n = keep-leaves Read i s
-  command-leaves Read i s NoSubindex n = keep-leaves Read i s
-  command-leaves (Segment toggle) i s f n = segment-leaves toggle (get (transfer c) u) i s
-  command-leaves End i s f n = keep-leaves End i s
-  command-leaves Unknown i s f n = keep-leaves Unknown i s
-
-  outcome-leaves : Leaves (command request) (index request) (subindex request) (outcome c request u .change)
+  outcome-leaves : Left (outcome c request u .change)
   outcome-leaves =
-      cond-both (λ (o : Outcome). Leaves (command request) (index request) (subindex request) (o .change)) (served (u .network))
-      (command-leaves (command request) (index request) (subindex request) (objectAt (index request) (subindex request)) (named (index request) (subindex request)))
-      (keep-leaves (command request) (index request) (subindex request))
+      let keeps = keep-leaves (command request) (index request) (subindex request) in
+      each-outcome c request u (λ o. Left (o .change))
+      (record {
+        aborted = λ code. keeps;
+        wrote = λ given o p q pass. wrote-leaves given o (valueFor o request) p q;
+        number = λ size n. keeps;
+        text = keeps;
+        first = keeps;
+        last = keeps;
+        toggle = keeps;
+        missing = keeps;
+        ended = keeps;
+        unserved = keeps;
+      })
 
 transfer-left : (c b : Channel) (next x : ℕ) → (T (sameChannel c b) → ⊥) → onTransfer c b next x ≡ x
 transfer-left One One next x h = absurd (h tt)
