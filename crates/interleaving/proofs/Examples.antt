@@ -30,7 +30,9 @@ used f v = reads (f .bytes) v || writes (f .bytes) v
 -- a write of one object, and one of the journal too, spares a request that uses neither
 module _ (f : RunFrame) (i s : ℕ) (free : T (used f (object i s)) → ⊥) where
   there : (j t : ℕ) → T (same (object j t) (object i s) || false) → T (used f (object j t)) → T (used f (object i s))
-  there j t p u = let n = parts (eqb j i) (eqb t s) (alone (eqb j i && eqb t s) p) in subst₂ (λ (i s : ℕ). T (used f (object i s))) (eqb→eq j i (n .0)) (eqb→eq t s (n .1)) u
+  there j t p u =
+      let n = parts (eqb j i) (eqb t s) (alone (eqb j i && eqb t s) p) in
+      subst₂ (λ (i s : ℕ). T (used f (object i s))) (eqb→eq j i (n .0)) (eqb→eq t s (n .1)) u
     where
       alone : (b : Bool) → T (b || false) → T b
       alone true p = tt

@@ -75,13 +75,24 @@ twos = cutShort ∷ writeTimer ∷ load ∷ readFilled ∷ []
 abbrev pub turns : List Turn
 turns = turn Two cutShort ∷ turn One writeType ∷ turn Two writeTimer ∷ turn Two load ∷ turn One readAngle ∷ turn Two readFilled ∷ []
 
--- both write and read, and all of it is done
+-- channel 1 gets: written, and 1234 steps of 6000
+abbrev pub toOne : List Answer
+toOne = reply 0x581 (0x60 ∷ 0x00 ∷ 0x18 ∷ 2 ∷ 0 ∷ 0 ∷ 0 ∷ 0 ∷ []) ∷ reply 0x581 (0x4B ∷ 0x10 ∷ 0x60 ∷ 0 ∷ 0xD2 ∷ 0x04 ∷ 0 ∷ 0 ∷ []) ∷ []
+
+-- channel 2 gets: nothing, written, loaded, and one filled block
+abbrev pub toTwo : List Answer
+toTwo =
+    (0, []) ∷
+    reply 0x6B1 (0x60 ∷ 0x00 ∷ 0x18 ∷ 5 ∷ 0 ∷ 0 ∷ 0 ∷ 0 ∷ []) ∷
+    reply 0x6B1 (0x60 ∷ 0x11 ∷ 0x10 ∷ 1 ∷ 0 ∷ 0 ∷ 0 ∷ 0 ∷ []) ∷
+    reply 0x6B1 (0x4B ∷ 0x00 ∷ 0x21 ∷ 0 ∷ 1 ∷ 0 ∷ 0 ∷ 0 ∷ []) ∷ []
+
+-- demand 3 speaks of them, both write and read, and all of it is done
 abbrev pub WriteAndRead : Type 0
 WriteAndRead =
     Accepted device × RunsApart ones twos × Interleaves turns ones twos ×
-    (answers event 1 One turns device ≡ reply 0x581 (0x60 ∷ 0x00 ∷ 0x18 ∷ 2 ∷ 0 ∷ 0 ∷ 0 ∷ 0 ∷ []) ∷ reply 0x581 (0x4B ∷ 0x10 ∷ 0x60 ∷ 0 ∷ 0xD2 ∷ 0x04 ∷ 0 ∷ 0 ∷ []) ∷ []) ×
-    (answers event 1 Two turns device ≡
-    (0, []) ∷ reply 0x6B1 (0x60 ∷ 0x00 ∷ 0x18 ∷ 5 ∷ 0 ∷ 0 ∷ 0 ∷ 0 ∷ []) ∷ reply 0x6B1 (0x60 ∷ 0x11 ∷ 0x10 ∷ 1 ∷ 0 ∷ 0 ∷ 0 ∷ 0 ∷ []) ∷ reply 0x6B1 (0x4B ∷ 0x00 ∷ 0x21 ∷ 0 ∷ 1 ∷ 0 ∷ 0 ∷ 0 ∷ []) ∷ []) ×
+    (answers event 1 One turns device ≡ toOne) ×
+    (answers event 1 Two turns device ≡ toTwo) ×
     (endOf event 1 turns device .running .pdo ≡ record { on = 1; transmission = 1; timer = 50 }) ×
     (endOf event 1 turns device .saves .filled ≡ 1)
 

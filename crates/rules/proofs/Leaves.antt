@@ -97,10 +97,11 @@ module _ (given : ℕ) where
     setting-leaves (Offset a) = keep-leaves (Write given) _ 0
     setting-leaves (Differential a) = put-leaves (Differential a) v
 
-    -- "1003:0 all of 1003; 1010:1 … writes the journal; 1011:1 writes the journal"
+    -- "1010:1 … writes the journal; 1011:1 writes the journal"
     fill-leaves : (o : Object) (kind : ℕ) (t : Settings) → T (writesBy (Write given) (rowOf o .index) (rowOf o .subindex) journal) → Written o (Fill c kind t)
     fill-leaves o kind t w = record { running = λ s x h. refl; errors = λ x h. refl; kept = λ x h. absurd (h w) }
 
+    -- "1003:0 all of 1003"
     change-leaves : (o : Object) → Written o (change c o v u)
     change-leaves (Const f) = keep-leaves (Write given) _ _
     change-leaves ErrorCount = record { running = λ t x h. refl; errors = λ x h. absurd (h tt); kept = λ x h. refl }
