@@ -5,6 +5,7 @@ use mathlib.Core.List.{List, [], _∷_}
 use Prim.Native.Nat.{ℕ}
 use native.Mathlib.Omega.{arith}
 use lib.ListN.{getD}
+use Rattle.interleaving.specs.Runs.{Sensor}
 use Rattle.rules.proofs.Accepted.{tick-accepted}
 use Rattle.rules.proofs.Frames.{request-received}
 use Rattle.rules.proofs.Kept.{fresh}
@@ -86,8 +87,8 @@ refuses-all sensor refuses meets =
 pub changes-nothing : KeptOut ChangesNothing
 changes-nothing sensor still meets = moves (ap state (sym (meets (network false) toStart 2 device)) ∙ still (network false) toStart 2 device)
 
-pub constant : KeptOut Constant
-constant sensor same = changes-nothing sensor (λ e bytes n u. ap state (same .2 e bytes n u))
+pub constant-sensor : KeptOut Constant
+constant-sensor sensor (number, frames, same) = changes-nothing sensor (λ e bytes n u. ap (λ (s : Sensor). s e bytes n u .state) same)
 
 pub works-once : KeptOut WorksOnce
 works-once sensor once meets =

@@ -3,6 +3,8 @@ use mathlib.Core.Path.{_≡_}
 use mathlib.Core.Bool.{true, false}
 use mathlib.Core.List.{List, [], _∷_}
 use Prim.Native.Nat.{ℕ, _+_}
+use Rattle.interleaving.specs.Demand3.{constant}
+use Rattle.interleaving.specs.Runs.{Sensor}
 use Rattle.rules.specs.declared.events.Event.{Event}
 use Rattle.rules.specs.declared.events.Event.the-variants.{Received}
 use Rattle.rules.specs.declared.events.Frame.{Frame}
@@ -13,13 +15,8 @@ use Rattle.rules.specs.Frames.{requestsAt, replyFrame}
 use Rattle.rules.specs.Numbers.{four}
 use Rattle.rules.specs.PowerOn.{powerOn}
 use Rattle.rules.specs.Ranges.{inRange}
-use Rattle.rules.specs.Results.{Result}
 use Rattle.rules.specs.Service.{served}
 use Rattle.rules.specs.State.{State}
-
--- what any sensor makes of an event, with its bytes and their number
-abbrev pub Sensor : Type 0
-Sensor = Event → List ℕ → ℕ → State → Result
 
 -- "what comes back and what every lent byte holds then, for all inputs, refused ones too"
 abbrev pub Meets : Sensor → Type 0
@@ -70,8 +67,6 @@ abbrev pub Invents2100 : Sensor → Type 0
 Invents2100 sensor =
     (c : Channel) × (u : State) × Serves u × ¬ (sensor (request c u) read2100 8 u .sent ≡ filledBlocks c u ∷ [])
 
--- "Demand 3 alone admits the constant sensor": it changes nothing and gives one answer to everything
+-- "Demand 3 alone admits the constant sensor": demand 2 does not
 abbrev pub Constant : Sensor → Type 0
-Constant sensor =
-    (refusal : ℕ) × (frames : List Frame)
-    × ((e : Event) (bytes : List ℕ) (n : ℕ) (u : State) → sensor e bytes n u ≡ record { refusal = refusal; state = u; sent = frames })
+Constant sensor = (number : ℕ) × (frames : List Frame) × (sensor ≡ constant number frames)
