@@ -2,7 +2,7 @@
 use mathlib.Core.Path.{_≡_, refl, ap, sym, _∙_}
 use mathlib.Core.Bool.{Bool, true, false}
 use mathlib.Core.List.{List, [], _∷_}
-use Prim.Native.Nat.{ℕ}
+use Prim.Native.Nat.{ℕ, suc}
 use native.Mathlib.Omega.{arith}
 use lib.ListN.{getD}
 use Rattle.interleaving.specs.Runs.{Sensor}
@@ -117,11 +117,17 @@ different : (answered read1000 ≡ 0x43) × (answered read1018 ≡ 0x4F)
 unfolding powerOn lengthOk fresh start onService commandOf find reply twoAt
 different = (on-channel read1000, on-channel read1018)
 
+-- what is answered, and with one frame if at all, begins as that frame does
+begins : (l : List Frame) (f : Frame) (n : ℕ) → firstByte l ≡ suc n → (¬ (l ≡ []) → l ≡ f ∷ []) → suc n ≡ firstByte (f ∷ [])
+begins l f n told one = sym told ∙ ap firstByte (one (λ silent. let zero : suc n ≡ 0 = sym told ∙ ap firstByte silent in omega arith))
+
 pub answers-alike : KeptOut AnswersAlike
 answers-alike sensor alike meets =
     let one = alike One device serves in
-    let first : (bytes : List ℕ) → answered bytes ≡ firstByte (one .0 ∷ []) = λ bytes. ap firstByte (ap sent (sym (meets (request One device) bytes 8 device)) ∙ one .1 bytes) in
-    let differ : _≡_ {A = ℕ} 0x43 0x4F = sym (different .0) ∙ first read1000 ∙ sym (first read1018) ∙ different .1 in
+    let same : (bytes : List ℕ) → firstByte (sensor (request One device) bytes 8 device .sent) ≡ answered bytes =
+    λ bytes. ap (λ (r : Result). firstByte (r .sent)) (meets (request One device) bytes 8 device) in
+    let differ : _≡_ {A = ℕ} 0x43 0x4F =
+    begins _ (one .0) 0x42 (same read1000 ∙ different .0) (one .1 read1000) ∙ sym (begins _ (one .0) 0x4E (same read1018 ∙ different .1) (one .1 read1018)) in
     omega arith
 
 -- whatever the record, a read of 2100 gives its filled blocks

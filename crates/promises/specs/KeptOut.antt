@@ -37,10 +37,11 @@ Serves u = (inRange u ≡ true) × (journalFits u ≡ true) × (served (u .netwo
 abbrev pub RefusesAll : Sensor → Type 0
 RefusesAll sensor = (e : Event) (bytes : List ℕ) (n : ℕ) (u : State) → ¬ (sensor e bytes n u .refusal ≡ 0)
 
--- "the one that answers every request with one frame", even if it has one for each channel of each record
+-- "the one that answers every request with one frame": wherever it answers, even if it has one for each channel of each record
 abbrev pub AnswersAlike : Sensor → Type 0
 AnswersAlike sensor =
-    (c : Channel) (u : State) → Serves u → (f : Frame) × ((bytes : List ℕ) → sensor (request c u) bytes 8 u .sent ≡ f ∷ [])
+    (c : Channel) (u : State) → Serves u →
+    (f : Frame) × ((bytes : List ℕ) → ¬ (sensor (request c u) bytes 8 u .sent ≡ []) → sensor (request c u) bytes 8 u .sent ≡ f ∷ [])
 
 -- "the one that takes events and changes nothing"
 abbrev pub ChangesNothing : Sensor → Type 0
