@@ -2,7 +2,7 @@
 use mathlib.Core.Path.{_≡_, refl, sym, _∙_}
 use mathlib.Core.Bool.{Bool, true, false, cond, not, _&&_, _||_}
 use mathlib.Core.List.{[], _∷_}
-use Prim.Native.Nat.{ℕ, zero, suc, _+_, _≤_, _<_}
+use Prim.Native.Nat.{ℕ, zero, suc, _+_, _-_, _≤_, _<_}
 use native.Mathlib.Numerals.{add-one}
 use native.Mathlib.Omega.{arith}
 use borrow.Author.Tests.{le-leb, lt-ltb, ltb-true, ltb-false}
@@ -11,14 +11,14 @@ use lib.IntN.{ℤ, pos, negsuc}
 use lib.ListN.{getD}
 use lib.Seq.{getD-take}
 use lib.Signed.{mag, leZ}
-use Rattle.laws.proofs.Bools.{no, both, left, right, cond-both, one-of}
+use Rattle.laws.proofs.Bools.{no, both, left, right, cond-both, cond-each, one-of}
 use Rattle.laws.proofs.Signed.{mag-within}
 use Rattle.rules.specs.declared.errors.ErrorList.{ErrorList}
 use Rattle.rules.specs.declared.objects.Setting.the-variants.{Resolution}
 use Rattle.rules.specs.declared.parts.Reading.{Reading}
 use Rattle.rules.specs.declared.settings.PdoSettings.{PdoSettings}
 use Rattle.rules.specs.Errors.{noErrors, entered}
-use Rattle.rules.specs.Numbers.{between, betweenℤ, fits}
+use Rattle.rules.specs.Numbers.{between, betweenℤ, fits, signed}
 use Rattle.rules.specs.Ranges.{codeOk, errorsOk, elapsedOk, syncsOk, countsOk, inside, axisOk}
 use Rattle.rules.specs.Settings.{synchronous, within, inTable, factory}
 use Rattle.rules.specs.State.{none, faulty, noCounts}
@@ -27,6 +27,12 @@ use Rattle.rules.specs.State.{none, faulty, noCounts}
 pub fits-sixteen : (z : ℤ) → mag z < 32768 → fits 16 z ≡ true
 fits-sixteen (pos n) h = le-leb n 32767 (omega arith)
 fits-sixteen (negsuc n) h = simp (le-leb n 32767 (omega arith))
+
+-- sixteen bits make a number that fits them
+pub signed-fits : (v : ℕ) → v < 0x10000 → fits 16 (signed 16 v) ≡ true
+signed-fits v h =
+    cond-each (λ (z : ℤ). fits 16 z ≡ true) (ltb v 32768) (λ e. fits-sixteen (pos v) (ltb-true v 32768 e))
+    (λ e. fits-sixteen (negsuc (65536 - suc v)) (omega (arith, ltb-false v 32768 e)))
 
 -- a number between two ends is no larger than the farther one
 pub between-small : (z : ℤ) (k n : ℕ) → k ≤ n → betweenℤ (negsuc k) (pos n) z ≡ true → mag z ≤ n

@@ -1,0 +1,178 @@
+-- What is known of the change that a request makes: its values are in their ranges, and a block to fill is left.
+use mathlib.Core.Path.{_≡_, refl}
+use mathlib.Core.Bool.{Bool, true, false}
+use mathlib.Core.List.{List}
+use Prim.Native.Nat.{ℕ, _<_, _^_}
+use native.Mathlib.Nat.{mod-lt, one-le-pow}
+use native.Mathlib.Omega.{arith}
+use lib.Dec.{eqb, ltb, leb}
+use lib.IntN.{ℤ}
+use borrow.Author.Tests.{eqb-true, ltb-true}
+use Rattle.laws.proofs.Bools.{cond-both, cond-each}
+use Rattle.rules.specs.declared.objects.Axis.{Axis}
+use Rattle.rules.specs.declared.objects.Channel.{Channel}
+use Rattle.rules.specs.declared.objects.Found.{Found}
+use Rattle.rules.specs.declared.objects.Found.the-variants.{At, NoObject, NoSubindex}
+use Rattle.rules.specs.declared.objects.Object.{Object}
+use Rattle.rules.specs.declared.objects.Object.the-variants.{Const, ErrorCount, ErrorEntry, Name, Save, Load, Filled, Angle, Of}
+use Rattle.rules.specs.declared.objects.Setting.{Setting}
+use Rattle.rules.specs.declared.objects.Setting.the-variants.{Heartbeat, On, Transmission, Timer, Resolution, Operating, Preset, Offset, Differential}
+use Rattle.rules.specs.declared.parts.Reading.{Reading}
+use Rattle.rules.specs.declared.requests.Change.{Change}
+use Rattle.rules.specs.declared.requests.Change.the-variants.{Keep, Put, Zero, Empty, Fill}
+use Rattle.rules.specs.declared.requests.Command.{Command}
+use Rattle.rules.specs.declared.requests.Command.the-variants.{Write, Read, Segment, End, Unknown}
+use Rattle.rules.specs.declared.requests.Got.{Got}
+use Rattle.rules.specs.declared.requests.Got.the-variants.{Number, Text, Missing}
+use Rattle.rules.specs.declared.requests.Outcome.{Outcome}
+use Rattle.rules.specs.declared.requests.Verdict.{Verdict}
+use Rattle.rules.specs.declared.requests.Verdict.the-variants.{Pass, Abort}
+use Rattle.rules.specs.declared.requests.Zeroed.{Zeroed}
+use Rattle.rules.specs.declared.requests.Zeroed.the-variants.{To, Refused}
+use Rattle.rules.specs.declared.settings.Settings.{Settings}
+use Rattle.rules.specs.Angle.{offset, zeroed}
+use Rattle.rules.specs.Block.{save, load}
+use Rattle.rules.specs.Cells.{running, rest, transfer, get, readingIn}
+use Rattle.rules.specs.Numbers.{between, fourAt, fits, signed}
+use Rattle.rules.specs.Objects.{objectAt, rowOf, settingRow}
+use Rattle.rules.specs.Reads.{readOf}
+use Rattle.rules.specs.Requests.{command, index, subindex, valueFor}
+use Rattle.rules.specs.Service.{onWrite, onRead, onSegment, onCommand, outcome, served, valued}
+use Rattle.rules.specs.Settings.{within, inTable, factory}
+use Rattle.rules.specs.State.{State, good, absent, atStart}
+use Rattle.rules.specs.Writes.{_then_, unless, roomCheck, accepts, zeroedBy, zeroChange, settingChange, change, stateCheck, writeCheck, lengthCheck, valueCheck}
+use Rattle.rules.proofs.Ranges.{factory-in, signed-fits}
+
+-- what a change may be in a state: a value is in its setting's length and range, and a block is filled where one is left
+abbrev pub Allowed : State → Change → Type 0
+Allowed u Keep = Unit {0}
+Allowed u (Put s v) = (v < 256 ^ settingRow s .size) × (within s (valued s v) ≡ true)
+Allowed u (Zero a preset offset) = (fits 16 preset ≡ true) × (fits 16 offset ≡ true)
+Allowed u Empty = Unit {0}
+Allowed u (Fill c kind t) =
+    (u .saves .filled < u .saves .blocks) × (u .saves .spoiled ≡ 0) × (between save load kind ≡ true) × (inTable (u .running) ≡ true → inTable t ≡ true)
+
+-- the first and the last check pass where the whole chain does
+pub passes-first : (v w : Verdict) → v then w ≡ Pass → v ≡ Pass
+passes-first Pass w e = refl
+passes-first (Abort code) w e = let z : _≡_ {A = ℕ} 0 1 = cc in absurd (omega arith)
+
+pub passes-last : (v w : Verdict) → v then w ≡ Pass → w ≡ Pass
+passes-last Pass w e = e
+passes-last (Abort code) w e = let z : _≡_ {A = ℕ} 0 1 = cc in absurd (omega arith)
+
+passes : (t : Bool) (code : ℕ) → unless t code ≡ Pass → t ≡ true
+passes true code e = refl
+passes false code e = let z : _≡_ {A = ℕ} 0 1 = cc in absurd (omega arith)
+
+-- a value that is written is in its object's length
+value-fits : (o : Object) (request : List ℕ) → valueFor o request < 256 ^ rowOf o .size
+value-fits o request = mod-lt (fourAt request 4) (one-le-pow (rowOf o .size) 256 (omega arith))
+
+-- an accepted value is in its setting's range
+accepted-in : (node : ℕ) (s : Setting) (v : ℕ) → v < 256 ^ settingRow s .size → accepts node s v ≡ true → within s (valued s v) ≡ true
+accepted-in node Heartbeat v h e = e
+accepted-in node On v h e = cond-both (λ (n : ℕ). leb n 1 ≡ true) (ltb v 0x80000000) refl refl
+accepted-in node Transmission v h e = e
+accepted-in node Timer v h e = e
+accepted-in node Resolution v h e = e
+accepted-in node (Operating a) v h e = e
+accepted-in node (Preset a) v h e = signed-fits v h
+accepted-in node (Offset a) v h e = signed-fits v h
+accepted-in node (Differential a) v h e = signed-fits v h
+
+-- an offset that is stored fits
+abbrev ZeroFits : Zeroed → Type 0
+ZeroFits (To offset) = fits 16 offset ≡ true
+ZeroFits (Refused code) = Unit {0}
+
+zero-fits : (x : Reading) (r operating : ℕ) (differential preset : ℤ) → ZeroFits (zeroed x r operating differential preset)
+unfolding zeroed
+zero-fits x r operating differential preset =
+    let o = offset (x .m) r operating differential preset in
+    cond-both ZeroFits (eqb (x .state) good) (cond-each ZeroFits (fits 16 o) (λ e. e) (λ e. tt)) tt
+
+module _ (u : State) where
+  abbrev Makes : Outcome → Type 0
+  Makes o = Allowed u (o .change)
+
+  fills : (c : Channel) (kind : ℕ) (t : Settings) → between save load kind ≡ true → (inTable (u .running) ≡ true → inTable t ≡ true)
+      → roomCheck (u .saves .spoiled) (u .saves .filled) (u .saves .blocks) ≡ Pass → Allowed u (Fill c kind t)
+  unfolding roomCheck
+  fills c kind t does table e =
+      let whole = eqb (u .saves .spoiled) 0 in
+      let free = ltb (u .saves .filled) (u .saves .blocks) in
+      let first = unless whole 0x06060000 in
+      let last = unless free 0x05040005 in (
+        ltb-true (u .saves .filled) (u .saves .blocks) (passes free 0x05040005 (passes-last first last e)),
+        eqb-true (u .saves .spoiled) 0 (passes whole 0x06060000 (passes-first first last e)),
+        does,
+        table,
+      )
+
+  zeroes : (a : Axis) (v : ℕ) (z : Zeroed) → v < 0x10000 → ZeroFits z → Allowed u (zeroChange a v z)
+  zeroes a v (To offset) h e = (signed-fits v h, e)
+  zeroes a v (Refused code) h e = tt
+
+  sets : (s : Setting) (v : ℕ) → v < 256 ^ settingRow s .size → accepts (u .node) s v ≡ true → Allowed u (settingChange s v u)
+  sets Heartbeat v h e = (h, accepted-in (u .node) Heartbeat v h e)
+  sets On v h e = (h, accepted-in (u .node) On v h e)
+  sets Transmission v h e = (h, accepted-in (u .node) Transmission v h e)
+  sets Timer v h e = (h, accepted-in (u .node) Timer v h e)
+  sets Resolution v h e = (h, accepted-in (u .node) Resolution v h e)
+  sets (Operating a) v h e = (h, accepted-in (u .node) (Operating a) v h e)
+  sets (Preset a) v h e =
+      zeroes a v (zeroedBy a v u) h
+      (zero-fits (readingIn a (get rest u)) (get (running Resolution) u) (get (running (Operating a)) u) (get (running (Differential a)) u) (signed 16 v))
+  sets (Offset a) v h e = tt
+  sets (Differential a) v h e = (h, accepted-in (u .node) (Differential a) v h e)
+
+  -- an object's change, where the value's check and the device state's pass
+  changes : (c : Channel) (o : Object) (v : ℕ) → v < 256 ^ rowOf o .size → valueCheck (u .node) o v ≡ Pass → stateCheck o v u ≡ Pass → Allowed u (change c o v u)
+  changes c (Const f) v h p e = tt
+  changes c ErrorCount v h p e = tt
+  changes c (ErrorEntry n) v h p e = tt
+  changes c Name v h p e = tt
+  changes c Save v h p e = fills c save (u .running) refl (λ t. t) e
+  changes c Load v h p e = fills c load factory refl (λ t. factory-in) e
+  changes c Filled v h p e = tt
+  changes c (Angle a) v h p e = tt
+  changes c (Of s) v h p e = sets s v h (passes (accepts (u .node) s v) 0x06090030 p)
+
+  writes : (request : List ℕ) (v : Verdict) (e : Change) → (v ≡ Pass → Allowed u e) → Makes (onWrite request v e)
+  writes request Pass e h = h refl
+  writes request (Abort code) e h = tt
+
+  reads : (request : List ℕ) (g : Got) → Makes (onRead request g)
+  reads request (Number size n) = tt
+  reads request Text = tt
+  reads request (Missing code) = tt
+
+  segments : (toggle t : ℕ) → Makes (onSegment toggle t)
+  unfolding onSegment
+  segments toggle t =
+      cond-both Makes (eqb t absent) tt
+      (cond-both Makes (eqb t atStart) (cond-both Makes (eqb toggle 0) tt tt) (cond-both Makes (eqb toggle 1) tt tt))
+
+  commands : (c : Channel) (request : List ℕ) (k : Command) (f : Found) → Makes (onCommand c request k f u)
+  commands c request (Write given) (At o) =
+      let v = valueFor o request in
+      let state = stateCheck o v u in
+      let value = valueCheck (u .node) o v in
+      let long = lengthCheck given (rowOf o .size) in
+      writes request (writeCheck given o v u) (change c o v u)
+      (λ e.
+      let checked = passes-last long (value then state) (passes-last (unless (rowOf o .writable) 0x06010002) (long then value then state) e) in
+      changes c o v (value-fits o request) (passes-first value state checked) (passes-last value state checked))
+  commands c request (Write given) NoObject = tt
+  commands c request (Write given) NoSubindex = tt
+  commands c request Read (At o) = reads request (readOf o u)
+  commands c request Read NoObject = tt
+  commands c request Read NoSubindex = tt
+  commands c request (Segment toggle) f = segments toggle (get (transfer c) u)
+  commands c request End f = tt
+  commands c request Unknown f = tt
+
+  pub allowed : (c : Channel) (request : List ℕ) → Allowed u (outcome c request u .change)
+  allowed c request =
+      cond-both Makes (served (u .network)) (commands c request (command request) (objectAt (index request) (subindex request))) tt
