@@ -1,4 +1,4 @@
--- What a state in range says of each part.
+-- What a state in range says of each part, and that nothing else is asked.
 use mathlib.Core.Path.{_≡_}
 use mathlib.Core.Bool.{Bool, true}
 use mathlib.Core.List.{List, [], _∷_}
@@ -43,3 +43,8 @@ parts u e =
       x = at 9;
       y = at 10;
     }
+
+pub together : (u : State) → InRange u → inRange u ≡ true
+unfolding inRange
+together u r =
+    simp (r .node, r .network, r .saves, r .running, r .errors, r .heartbeat, r .pdo, r .one, r .two, r .x, r .y)

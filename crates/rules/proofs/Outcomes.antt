@@ -11,8 +11,6 @@ use borrow.Author.Tests.{eqb-true, ltb-true}
 use Rattle.laws.proofs.Bools.{cond-both, cond-each}
 use Rattle.rules.specs.declared.objects.Axis.{Axis}
 use Rattle.rules.specs.declared.objects.Channel.{Channel}
-use Rattle.rules.specs.declared.objects.Found.{Found}
-use Rattle.rules.specs.declared.objects.Found.the-variants.{At, NoObject, NoSubindex}
 use Rattle.rules.specs.declared.objects.Object.{Object}
 use Rattle.rules.specs.declared.objects.Object.the-variants.{Const, ErrorCount, ErrorEntry, Name, Save, Load, Filled, Angle, Of}
 use Rattle.rules.specs.declared.objects.Setting.{Setting}
@@ -20,10 +18,6 @@ use Rattle.rules.specs.declared.objects.Setting.the-variants.{Heartbeat,
 use Rattle.rules.specs.declared.parts.Reading.{Reading}
 use Rattle.rules.specs.declared.requests.Change.{Change}
 use Rattle.rules.specs.declared.requests.Change.the-variants.{Keep, Put, Zero, Empty, Fill}
-use Rattle.rules.specs.declared.requests.Command.{Command}
-use Rattle.rules.specs.declared.requests.Command.the-variants.{Write, Read, Segment, End, Unknown}
-use Rattle.rules.specs.declared.requests.Got.{Got}
-use Rattle.rules.specs.declared.requests.Got.the-variants.{Number, Text, Missing}
 use Rattle.rules.specs.declared.requests.Outcome.{Outcome}
 use Rattle.rules.specs.declared.requests.Verdict.{Verdict}
 use Rattle.rules.specs.declared.requests.Verdict.the-variants.{Pass, Abort}
@@ -34,13 +28,14 @@ use Rattle.rules.specs.Angle.{offset, zeroed}
 use Rattle.rules.specs.Block.{save, load}
 use Rattle.rules.specs.Cells.{running, rest, transfer, get, readingIn}
 use Rattle.rules.specs.Numbers.{between, fourAt, fits, signed}
-use Rattle.rules.specs.Objects.{objectAt, rowOf, settingRow}
-use Rattle.rules.specs.Reads.{readOf}
-use Rattle.rules.specs.Requests.{command, index, subindex, valueFor}
-use Rattle.rules.specs.Service.{onWrite, onRead, onSegment, onCommand, outcome, served, valued}
+use Rattle.rules.specs.Objects.{rowOf, settingRow}
+use Rattle.rules.specs.Requests.{valueFor}
+use Rattle.rules.specs.Service.{outcome, valued}
 use Rattle.rules.specs.Settings.{within, inTable, factory}
-use Rattle.rules.specs.State.{State, good, absent, atStart}
+use Rattle.rules.specs.State.{State, good}
 use Rattle.rules.specs.Writes.{_then_, unless, roomCheck, accepts, zeroedBy, zeroChange, settingChange, change, stateCheck, writeCheck, lengthCheck, valueCheck}
+use Rattle.rules.specs.Ranges.{transferOk}
+use Rattle.rules.proofs.EachOutcome.{each-outcome}
 use Rattle.rules.proofs.Ranges.{factory-in, signed-fits}
 
 -- what a change may be in a state: a value is in its setting's length and range, and a block is filled where one is left
@@ -93,9 +88,6 @@ zero-fits x r operating differential preset =
     cond-both ZeroFits (eqb (x .state) good) (cond-each ZeroFits (fits 16 o) (λ e. e) (λ e. tt)) tt
 
 module _ (u : State) where
-  abbrev Makes : Outcome → Type 0
-  Makes o = Allowed u (o .change)
-
   fills : (c : Channel) (kind : ℕ) (t : Settings) → between save load kind ≡ true → (inTable (u .running) ≡ true → inTable t ≡ true)
       → roomCheck (u .saves .spoiled) (u .saves .filled) (u .saves .blocks) ≡ Pass → Allowed u (Fill c kind t)
   unfolding roomCheck
@@ -139,40 +131,45 @@ module _ (u : State) where
   changes c (Angle a) v h p e = tt
   changes c (Of s) v h p e = sets s v h (passes (accepts (u .node) s v) 0x06090030 p)
 
-  writes : (request : List ℕ) (v : Verdict) (e : Change) → (v ≡ Pass → Allowed u e) → Makes (onWrite request v e)
-  writes request Pass e h = h refl
-  writes request (Abort code) e h = tt
-
-  reads : (request : List ℕ) (g : Got) → Makes (onRead request g)
-  reads request (Number size n) = tt
-  reads request Text = tt
-  reads request (Missing code) = tt
-
-  segments : (toggle t : ℕ) → Makes (onSegment toggle t)
-  unfolding onSegment
-  segments toggle t =
-      cond-both Makes (eqb t absent) tt
-      (cond-both Makes (eqb t atStart) (cond-both Makes (eqb toggle 0) tt tt) (cond-both Makes (eqb toggle 1) tt tt))
-
-  commands : (c : Channel) (request : List ℕ) (k : Command) (f : Found) → Makes (onCommand c request k f u)
-  commands c request (Write given) (At o) =
+  -- an accepted write, whose checks all passed
+  wrote : (c : Channel) (request : List ℕ) (given : ℕ) (o : Object) → writeCheck given o (valueFor o request) u ≡ Pass → Allowed u (change c o (valueFor o request) u)
+  wrote c request given o e =
       let v = valueFor o request in
       let state = stateCheck o v u in
       let value = valueCheck (u .node) o v in
       let long = lengthCheck given (rowOf o .size) in
-      writes request (writeCheck given o v u) (change c o v u)
-      (λ e.
       let checked = passes-last long (value then state) (passes-last (unless (rowOf o .writable) 0x06010002) (long then value then state) e) in
-      changes c o v (value-fits o request) (passes-first value state checked) (passes-last value state checked))
-  commands c request (Write given) NoObject = tt
-  commands c request (Write given) NoSubindex = tt
-  commands c request Read (At o) = reads request (readOf o u)
-  commands c request Read NoObject = tt
-  commands c request Read NoSubindex = tt
-  commands c request (Segment toggle) f = segments toggle (get (transfer c) u)
-  commands c request End f = tt
-  commands c request Unknown f = tt
+      changes c o v (value-fits o request) (passes-first value state checked) (passes-last value state checked)
 
   pub allowed : (c : Channel) (request : List ℕ) → Allowed u (outcome c request u .change)
   allowed c request =
-      cond-both Makes (served (u .network)) (commands c request (command request) (objectAt (index request) (subindex request))) tt
+      each-outcome c request u (λ (o : Outcome). Allowed u (o .change))
+      (record {
+        aborted = λ code. tt;
+        wrote = λ given o p q. wrote c request given o;
+        number = λ size n. tt;
+        text = tt;
+        first = tt;
+        last = tt;
+        toggle = tt;
+        missing = tt;
+        ended = tt;
+        unserved = tt;
+      })
+
+  -- a channel's transfer stays absent, at the start or after seven bytes
+  pub transfer-in : (c : Channel) (request : List ℕ) → transferOk (get (transfer c) u) ≡ true → transferOk (outcome c request u .transfer) ≡ true
+  transfer-in c request h =
+      each-outcome c request u (λ (o : Outcome). transferOk (o .transfer) ≡ true)
+      (record {
+        aborted = λ code. refl;
+        wrote = λ given o p q e. refl;
+        number = λ size n. refl;
+        text = refl;
+        first = refl;
+        last = refl;
+        toggle = refl;
+        missing = refl;
+        ended = refl;
+        unserved = h;
+      })

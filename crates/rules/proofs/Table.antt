@@ -1,5 +1,5 @@
 -- Laws of the object table: what it allows of each setting.
-use mathlib.Core.Path.{_≡_, refl}
+use mathlib.Core.Path.{_≡_, refl, ap, _∙_}
 use mathlib.Core.Bool.{Bool, true}
 use mathlib.Core.List.{List, [], _∷_, map}
 use Prim.Native.Nat.{ℕ, zero, suc, _<_}
@@ -7,14 +7,14 @@ use native.Mathlib.Omega.{arith}
 use lib.Dec.{eqb, lit<}
 use lib.ListN.{getD}
 use borrow.Author.Tests.{eqb-true, leb-true}
-use Rattle.laws.proofs.Bools.{left, right, either}
+use Rattle.laws.proofs.Bools.{both, left, right, either}
 use Rattle.rules.proofs.Numbers.{to-most}
 use Rattle.rules.specs.Numbers.{between}
 use Rattle.rules.specs.declared.objects.Axis.the-variants.{X, Y}
 use Rattle.rules.specs.declared.objects.Setting.{Setting}
 use Rattle.rules.specs.declared.objects.Setting.the-variants.{Heartbeat, On, Transmission, Timer, Resolution, Operating, Preset, Offset, Differential}
 use Rattle.rules.specs.declared.settings.Settings.{Settings}
-use Rattle.rules.specs.Settings.{every, inTable, setting, settings, within}
+use Rattle.rules.specs.Settings.{Held, every, inTable, setting, settings, settingsOf, within}
 
 -- what holds of every element holds of the one at a place
 pub every-at : {A : Type 0} (p : A → Bool) (l : List A) → every p l ≡ true → (i : ℕ) → getD (map p l) i true ≡ true
@@ -42,6 +42,34 @@ module _ (t : Settings) (e : inTable t ≡ true) where
   setting-in (Preset Y) = by-place 10
   setting-in (Offset Y) = by-place 11
   setting-in (Differential Y) = by-place 12
+
+-- and settings with each one in its range are within the object table
+every-of : {A : Type 0} (p : A → Bool) (l : List A) → ((x : A) → p x ≡ true) → every p l ≡ true
+every-of p [] h = refl
+every-of p (x ∷ l) h = both (h x) (every-of p l h)
+
+pub in-table : (t : Settings) → ((s : Setting) → within s (setting s t) ≡ true) → inTable t ≡ true
+unfolding inTable
+in-table t h = every-of (λ s. within s (setting s t)) settings h
+
+-- a setting of the settings with each one given
+pub setting-of : (f : (s : Setting) → Held s) (s : Setting) → setting s (settingsOf f) ≡ f s
+setting-of f Heartbeat = refl
+setting-of f On = refl
+setting-of f Transmission = refl
+setting-of f Timer = refl
+setting-of f Resolution = refl
+setting-of f (Operating X) = refl
+setting-of f (Operating Y) = refl
+setting-of f (Preset X) = refl
+setting-of f (Preset Y) = refl
+setting-of f (Offset X) = refl
+setting-of f (Offset Y) = refl
+setting-of f (Differential X) = refl
+setting-of f (Differential Y) = refl
+
+pub table-of : (f : (s : Setting) → Held s) → ((s : Setting) → within s (f s) ≡ true) → inTable (settingsOf f) ≡ true
+table-of f h = in-table (settingsOf f) (λ s. ap (within s) (setting-of f s) ∙ h s)
 
 -- the numbers of two bytes have 16 bits
 pub heartbeat-fits : (x : ℕ) → within Heartbeat x ≡ true → x < 0x10000
