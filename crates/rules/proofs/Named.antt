@@ -1,37 +1,39 @@
--- Laws of the object table: what is found has the index and the subindex that were asked.
-use mathlib.Core.Path.{_≡_, refl}
+-- What is found at an index and a subindex has these numbers.
+use mathlib.Core.Path.{_≡_, refl, sym, subst}
 use mathlib.Core.Bool.{Bool, true, false, cond, _&&_}
 use mathlib.Core.List.{List, [], _∷_}
 use Prim.Native.Nat.{ℕ}
-use lib.Dec.{eqb}
-use borrow.Author.Tests.{eqb-true}
-use Rattle.laws.proofs.Bools.{left, right, cond-both}
+use lib.Dec.{T, eqb, eqb→eq}
+use Rattle.laws.proofs.Bools.{parts}
 use Rattle.rules.specs.declared.objects.Found.{Found}
 use Rattle.rules.specs.declared.objects.Found.the-variants.{At, NoObject, NoSubindex}
 use Rattle.rules.specs.declared.objects.Object.{Object}
 use Rattle.rules.specs.Objects.{rowOf, find, objects, objectAt}
 
 abbrev pub Names : Found → ℕ → ℕ → Type 0
-Names (At o) index subindex = (index ≡ rowOf o .index) × (subindex ≡ rowOf o .subindex)
-Names NoObject index subindex = Unit {0}
-Names NoSubindex index subindex = Unit {0}
+Names (At o) i s = (i ≡ rowOf o .index) × (s ≡ rowOf o .subindex)
+Names NoObject i s = Unit {0}
+Names NoSubindex i s = Unit {0}
 
-module _ (index subindex : ℕ) where
-  here : (o : Object) (t : Bool) → eqb index (rowOf o .index) && eqb subindex (rowOf o .subindex) ≡ t → (f : Found) → Names f index subindex → Names (cond t (At o) f) index subindex
-  here o true e f n =
-      let same = eqb index (rowOf o .index) in
-      let sub = eqb subindex (rowOf o .subindex) in
-      (eqb-true index (rowOf o .index) (left same sub e), eqb-true subindex (rowOf o .subindex) (right same sub e))
-  here o false e f n = n
+module _ (i s : ℕ) where
+  abbrev here : Object → Bool
+  here o = eqb i (rowOf o .index)
 
-  found : (missing : Found) → Names missing index subindex → (os : List Object) → Names (find index subindex missing os) index subindex
+  missed : (missing : Found) → Names missing i s → (t : Bool) → Names (cond t NoSubindex missing) i s
+  missed missing h true = tt
+  missed missing h false = h
+
+  -- the object is the one that is asked for, or the search goes on
+  first : (o : Object) (later : Found) → Names later i s → (t : Bool) → here o && eqb s (rowOf o .subindex) ≡ t → Names (cond t (At o) later) i s
+  first o later h true e =
+      let p = parts (here o) (eqb s (rowOf o .subindex)) (subst T (sym e) tt) in
+      (eqb→eq i (rowOf o .index) (p .0), eqb→eq s (rowOf o .subindex) (p .1))
+  first o later h false e = h
+
+  found : (missing : Found) → Names missing i s → (l : List Object) → Names (find i s missing l) i s
   unfolding find
-  found missing n [] = n
-  found missing n (o ∷ os) =
-      let P : Found → Type 0 = λ f. Names f index subindex in
-      let same = eqb index (rowOf o .index) in
-      let rest : Found = cond same NoSubindex missing in
-      here o (same && eqb subindex (rowOf o .subindex)) refl (find index subindex rest os) (found rest (cond-both P same tt n) os)
+  found missing h [] = h
+  found missing h (o ∷ l) = first o _ (found (cond (here o) NoSubindex missing) (missed missing h (here o)) l) _ refl
 
-  pub named : Names (objectAt index subindex) index subindex
+  pub named : Names (objectAt i s) i s
   named = found NoObject tt objects
