@@ -1,0 +1,3 @@
+pub mod Runs
+pub mod Demand3
+pub mod Examples
