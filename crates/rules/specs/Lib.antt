@@ -29,6 +29,7 @@ pub mod Frames
 pub mod Check
 pub mod Block
 pub mod Journal
+pub mod Acknowledged
 -- What a request reads and writes
 pub mod ReadsWrites
 -- Sample values

@@ -1,0 +1,54 @@
+-- Which settings run after power-on, 81h and 82h.
+use mathlib.Core.Path.{_≡_}
+use mathlib.Core.Bool.{true, false, _||_}
+use mathlib.Core.List.{List}
+use Prim.Native.Nat.{ℕ}
+use lib.Dec.{eqb}
+use lib.ListN.{getD}
+use Rattle.laws.proofs.Bools.{no, cond-each}
+use Rattle.rules.specs.declared.events.Event.the-variants.{Received}
+use Rattle.rules.specs.declared.parts.Identity.{Identity}
+use Rattle.rules.specs.Events.{onFrame, journalFits, event}
+use Rattle.rules.specs.Journal.{lengthOk}
+use Rattle.rules.specs.Network.{start, onCommand, onNetwork}
+use Rattle.rules.specs.PowerOn.{savesIn, zeroState, powerOn}
+use Rattle.rules.specs.Ranges.{inRange, nodeOk}
+use Rattle.rules.specs.Results.{Result, refused}
+use Rattle.rules.specs.State.{State}
+
+-- power-on is refused, or starts from what it finds in the journal
+pub power-each : (P : Result → Type 0) (node : ℕ) (identity : Identity) (j : List ℕ)
+    → (nodeOk node ≡ true → lengthOk j ≡ true → P (start node identity (savesIn j) j)) → ((number : ℕ) → P (refused number (zeroState j)))
+    → P (powerOn node identity j)
+unfolding powerOn
+power-each P node identity j on off =
+    cond-each P (nodeOk node) (λ n. cond-each P (lengthOk j) (λ l. on n l) (λ no. off 1)) (λ no. off 4)
+
+pub zero-refused : (j : List ℕ) {A : Type 0} → inRange (zeroState j) ≡ true → A
+unfolding inRange
+zero-refused j e = no e
+
+-- "81h, like power-on, takes all settings"
+pub power-on-takes : (node : ℕ) (identity : Identity) (j : List ℕ) → nodeOk node ≡ true → lengthOk j ≡ true
+    → powerOn node identity j .state .running ≡ savesIn j .stored
+unfolding powerOn start
+power-on-takes node identity j n l = rw (n, l)
+
+module _ (u : State) (bytes : List ℕ) (range : inRange u ≡ true) (fits : journalFits u ≡ true)
+    (own : eqb (getD bytes 1 0) 0 || eqb (getD bytes 1 0) (u .node) ≡ true) where
+  pub reset-takes : getD bytes 0 0 ≡ 0x81 → event (Received (record { identifier = 0; remote = false })) bytes 2 u .state .running ≡ u .saves .stored
+  unfolding event onFrame onNetwork onCommand start
+  reset-takes e = rw (range, fits, own, e)
+
+  -- "82h takes 1017 and 1800 from the stored settings", and no other
+  pub communication-reset-takes : getD bytes 0 0 ≡ 0x82
+      → event (Received (record { identifier = 0; remote = false })) bytes 2 u .state .running
+      ≡ record {
+        heartbeat = u .saves .stored .heartbeat;
+        pdo = u .saves .stored .pdo;
+        resolution = u .running .resolution;
+        x = u .running .x;
+        y = u .running .y;
+      }
+  unfolding event onFrame onNetwork onCommand
+  communication-reset-takes e = rw (range, fits, own, e)
