@@ -1,0 +1,132 @@
+/* Measures the stack that each call takes: a stack of its own is painted, the call runs on it, and the deepest changed byte is looked for. */
+#include "basintilt.h"
+
+#include <stdio.h>
+#include <string.h>
+
+enum { STACK_BYTES = 32768, PAINT = 0xA5, BLOCKS_TRIED = 3 };
+
+/* What docs/INTEGRATION.md says is enough. */
+enum { ENOUGH_FOR_POWER_ON = 9216, ENOUGH_FOR_EVENT = 2048, ENOUGH_FOR_QUERY = 256 };
+
+static uint8_t stack[STACK_BYTES] __attribute__((aligned(16)));
+static uint8_t journal[BASINTILT_MOST_BLOCKS * BASINTILT_BLOCK_BYTES];
+static size_t journal_length;
+static struct basintilt_device device;
+static struct basintilt_stepped stepped;
+static struct basintilt_answer answer;
+static struct basintilt_happening happening;
+static volatile uint32_t judged;
+
+static void power_on(void)
+{
+    stepped = basintilt_power_on(1, (struct basintilt_identity){1, 2, 3, 4}, journal, journal_length);
+}
+
+static void event(void)
+{
+    answer = basintilt_event(&device, journal, journal_length, happening);
+}
+
+static void block(void)
+{
+    judged = basintilt_block(journal, BASINTILT_BLOCK_BYTES, 1);
+}
+
+/* The bytes between the top of the painted stack and the deepest changed one. */
+static size_t depth(void (*call)(void))
+{
+    size_t untouched = 0;
+    memset(stack, PAINT, sizeof stack);
+    __asm__ volatile("movq %%rsp, %%rbx\n\tmovq %0, %%rsp\n\tcallq *%1\n\tmovq %%rbx, %%rsp"
+                     :
+                     : "r"(stack + sizeof stack), "r"(call)
+                     : "rax", "rbx", "rcx", "rdx", "rsi", "rdi", "r8", "r9", "r10", "r11", "cc", "memory", "xmm0",
+                       "xmm1", "xmm2", "xmm3", "xmm4", "xmm5", "xmm6", "xmm7", "xmm8", "xmm9", "xmm10", "xmm11", "xmm12", "xmm13", "xmm14", "xmm15");
+    while (untouched < sizeof stack && stack[untouched] == PAINT)
+        untouched++;
+    return sizeof stack - untouched;
+}
+
+static void note(size_t *most, size_t now)
+{
+    *most = now > *most ? now : *most;
+}
+
+/* A journal whose first blocks are good: saves, one after the other. */
+static void fill(uint16_t filled)
+{
+    memset(journal, 0xFF, sizeof journal);
+    power_on();
+    device = stepped.device;
+    happening = (struct basintilt_happening){.identifier = 0x601, .length = 8, .bytes = {0x23, 0x10, 0x10, 1, 's', 'a', 'v', 'e'}};
+    for (uint16_t i = 0; i < filled; i++)
+        event();
+}
+
+/* Every first byte of a request on every object, in Operational, with both axes good. */
+static size_t requests(void)
+{
+    static const uint8_t firsts[] = {0x22, 0x23, 0x27, 0x2B, 0x2F, 0x40, 0x60, 0x70, 0x80, 0xFF};
+    static const uint16_t indices[] = {0x1000, 0x1001, 0x1003, 0x1005, 0x1008, 0x1010, 0x1011, 0x1014, 0x1017, 0x1018,
+                                       0x1200, 0x1201, 0x1800, 0x1A00, 0x2100, 0x2101, 0x6000, 0x6010, 0x6011, 0x6012,
+                                       0x6013, 0x6014, 0x6020, 0x6021, 0x6022, 0x6023, 0x6024, 0x7000};
+    size_t most = 0;
+    for (size_t f = 0; f < sizeof firsts; f++)
+        for (size_t i = 0; i < sizeof indices / sizeof *indices; i++)
+            for (uint8_t sub = 0; sub < 7; sub++) {
+                happening = (struct basintilt_happening){.identifier = 0x601 + 0x80 * (sub & 1), .length = 8};
+                memcpy(happening.bytes, (uint8_t[]){firsts[f], (uint8_t)indices[i], (uint8_t)(indices[i] >> 8), sub, 's', 'a', 'v', 'e'}, 8);
+                if (indices[i] == 0x1011)
+                    memcpy(happening.bytes + 4, "load", 4);
+                else if (indices[i] != 0x1010)
+                    memset(happening.bytes + 4, 0, 4);
+                note(&most, depth(event));
+            }
+    return most;
+}
+
+/* NMT commands, SYNC, ticks, readings, good and not. */
+static size_t others(void)
+{
+    static const uint8_t commands[] = {0x01, 0x02, 0x80, 0x81, 0x82, 0x01};
+    static const int32_t readings[] = {0, 180001, -180000, -180001, 90000};
+    size_t most = 0;
+    for (size_t i = 0; i < sizeof commands; i++) {
+        happening = (struct basintilt_happening){.length = 2, .bytes = {commands[i], 0}};
+        note(&most, depth(event));
+        happening = (struct basintilt_happening){.identifier = 0x80};
+        note(&most, depth(event));
+        happening = (struct basintilt_happening){.kind = BASINTILT_TICK, .ms = 100};
+        note(&most, depth(event));
+        for (size_t k = 0; k < 2 * sizeof readings / sizeof *readings; k++) {
+            happening = (struct basintilt_happening){.kind = k % 2 ? BASINTILT_READING_X : BASINTILT_READING_Y, .m = readings[k / 2]};
+            note(&most, depth(event));
+        }
+    }
+    return most;
+}
+
+static int over(const char *what, unsigned blocks, size_t bytes, size_t enough)
+{
+    printf("%s, %u blocks: %zu bytes of stack%s\n", what, blocks, bytes, bytes > enough ? ", TOO MANY" : "");
+    return bytes > enough;
+}
+
+int main(void)
+{
+    static const uint16_t blocks[BLOCKS_TRIED] = {1, 2, BASINTILT_MOST_BLOCKS};
+    int failures = 0;
+    for (int i = 0; i < BLOCKS_TRIED; i++) {
+        journal_length = (size_t)blocks[i] * BASINTILT_BLOCK_BYTES;
+        fill(0);
+        failures += over("power-on, all blank", blocks[i], depth(power_on), ENOUGH_FOR_POWER_ON);
+        fill(blocks[i]);
+        failures += over("power-on, all good", blocks[i], depth(power_on), ENOUGH_FOR_POWER_ON);
+        fill(0);
+        size_t most = others();
+        note(&most, requests());
+        failures += over("an event, the deepest", blocks[i], most, ENOUGH_FOR_EVENT);
+    }
+    return failures + over("block query", 1, depth(block), ENOUGH_FOR_QUERY);
+}
