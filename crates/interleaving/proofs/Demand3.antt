@@ -10,11 +10,11 @@ use Rattle.rules.proofs.Frames.{request-received}
 use Rattle.rules.proofs.Stays.{event-stays}
 use Rattle.rules.specs.declared.objects.Channel.{Channel}
 use Rattle.rules.specs.declared.objects.Channel.the-variants.{One, Two}
-use Rattle.rules.specs.Events.{onService, event}
+use Rattle.rules.specs.Events.{onService, NotRefused, event}
 use Rattle.rules.specs.Results.{Result, ignored, refused}
 use Rattle.rules.specs.State.{State}
 use Rattle.interleaving.proofs.Sorted.{does, next, answer, endIn, answersIn, any-order}
-use Rattle.interleaving.specs.Demand3.{isRequest, Accepted, Demand3}
+use Rattle.interleaving.specs.Demand3.{isRequest, Demand3}
 use Rattle.interleaving.specs.Runs.{RunFrame, Turn, turn, add, result, endOf, answers}
 
 -- by the remote mark and the length
@@ -29,14 +29,14 @@ served c false bytes n u true false p q = rw (p, q)
 served c false bytes n u false true p q = no (sym (rw (eqb-true n 8 q) at p))
 served c false bytes n u false false p q = rw p
 
-module _ (c : Channel) (f : RunFrame) (u : State) (h : Accepted u) where
+module _ (c : Channel) (f : RunFrame) (u : State) (h : NotRefused u) where
   frame-does : result event (u .node) c f u ≡ does (isRequest f) c f u
   frame-does =
       request-received (f .remote) (f .bytes) (f .length) u (h .0) (h .1) c
       ∙ served c (f .remote) (f .bytes) (f .length) u _ _ refl refl
 
-  frame-stays : Accepted (next c f u)
-  frame-stays = subst (λ (r : Result). Accepted (r .state)) frame-does (event-stays _ (f .bytes) (f .length) u (h .0) (h .1))
+  frame-stays : NotRefused (next c f u)
+  frame-stays = subst (λ (r : Result). NotRefused (r .state)) frame-does (event-stays u h _ (f .bytes) (f .length))
 
   frame-node : next c f u .node ≡ u .node
   frame-node = node-by (isRequest f)
@@ -46,7 +46,7 @@ module _ (c : Channel) (f : RunFrame) (u : State) (h : Accepted u) where
       node-by false = refl
 
 -- so the frames in turns do what `does` says
-runs : (node : ℕ) (turns : List Turn) (u : State) → node ≡ u .node → Accepted u →
+runs : (node : ℕ) (turns : List Turn) (u : State) → node ≡ u .node → NotRefused u →
     (endOf event node turns u ≡ endIn turns u) × ((c : Channel) → answers event node c turns u ≡ answersIn c turns u)
 unfolding endOf answers endIn answersIn
 runs node [] u p h = (refl, λ c. refl)

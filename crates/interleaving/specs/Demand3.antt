@@ -1,14 +1,13 @@
 -- Demand 3: "From any record that is not refused, two runs of service requests, one a channel, of which none writes what one of the other
 -- reads or writes by 01's table: however interleaved, each channel gets the same answers in its order, and device and journal end the same."
 use mathlib.Core.Path.{_≡_}
-use mathlib.Core.Bool.{Bool, true, not, _&&_}
+use mathlib.Core.Bool.{Bool, not, _&&_}
 use mathlib.Core.List.{List, [], _∷_}
 use Prim.Native.Nat.{ℕ}
 use lib.Dec.{T, eqb}
 use Rattle.rules.specs.declared.events.Frame.{Frame}
 use Rattle.rules.specs.declared.objects.Channel.the-variants.{One, Two}
-use Rattle.rules.specs.Events.{journalFits, event}
-use Rattle.rules.specs.Ranges.{inRange}
+use Rattle.rules.specs.Events.{NotRefused, event}
 use Rattle.rules.specs.ReadsWrites.{Apart}
 use Rattle.rules.specs.State.{State}
 use Rattle.interleaving.specs.Runs.{Sensor, RunFrame, Turn, Interleaves, endOf, answers}
@@ -28,10 +27,6 @@ Each P (f ∷ run) = P f × Each P run
 abbrev pub RunsApart : List RunFrame → List RunFrame → Type 0
 RunsApart ones twos = Each (λ f. Each (FramesApart f) twos) ones
 
--- "any record that is not refused", with its journal
-abbrev pub Accepted : State → Type 0
-Accepted u = (inRange u ≡ true) × (journalFits u ≡ true)
-
 -- "each channel gets the same answers in its order, and device and journal end the same"
 abbrev pub Alike : Sensor → List Turn → List Turn → State → Type 0
 Alike S turns others u =
@@ -42,7 +37,7 @@ Alike S turns others u =
 -- what demand 3 asks of a sensor
 abbrev pub Independent : Sensor → Type 0
 Independent S =
-    (u : State) → Accepted u →
+    (u : State) → NotRefused u →
     (ones twos : List RunFrame) → RunsApart ones twos →
     (turns others : List Turn) → Interleaves turns ones twos → Interleaves others ones twos → Alike S turns others u
 

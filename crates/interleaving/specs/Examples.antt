@@ -7,12 +7,12 @@ use lib.IntN.{pos}
 use lib.ListN.{replicate}
 use Rattle.rules.specs.declared.objects.Channel.the-variants.{One, Two}
 use Rattle.rules.specs.Errors.{noErrors}
-use Rattle.rules.specs.Events.{event}
+use Rattle.rules.specs.Events.{NotRefused, event}
 use Rattle.rules.specs.Frames.{frame}
 use Rattle.rules.specs.Network.{noReading}
 use Rattle.rules.specs.Settings.{factory}
 use Rattle.rules.specs.State.{State, operational, absent, good, noCounts}
-use Rattle.interleaving.specs.Demand3.{FramesApart, RunsApart, Accepted}
+use Rattle.interleaving.specs.Demand3.{FramesApart, RunsApart}
 use Rattle.interleaving.specs.Runs.{RunFrame, Turn, turn, Interleaves, Answer, endOf, answers}
 
 -- node 1 in Operational with factory settings, X at 12345 thousandths, and one blank block
@@ -90,7 +90,7 @@ toTwo =
 -- demand 3 speaks of them, both write and read, and all of it is done
 abbrev pub WriteAndRead : Type 0
 WriteAndRead =
-    Accepted device × RunsApart ones twos × Interleaves turns ones twos ×
+    NotRefused device × RunsApart ones twos × Interleaves turns ones twos ×
     (answers event 1 One turns device ≡ toOne) ×
     (answers event 1 Two turns device ≡ toTwo) ×
     (endOf event 1 turns device .running .pdo ≡ record { on = 1; transmission = 1; timer = 50 }) ×

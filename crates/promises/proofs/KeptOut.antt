@@ -10,14 +10,14 @@ use Rattle.rules.proofs.Accepted.{tick-accepted}
 use Rattle.rules.proofs.Frames.{request-received}
 use Rattle.rules.proofs.Kept.{fresh}
 use Rattle.rules.proofs.Refusals.{then-its-kind}
-use Rattle.rules.proofs.Stays.{Fine, start-stays}
+use Rattle.rules.proofs.Stays.{start-stays}
 use Rattle.rules.specs.declared.events.Event.{Event}
 use Rattle.rules.specs.declared.events.Event.the-variants.{Received, Tick}
 use Rattle.rules.specs.declared.events.Frame.{Frame}
 use Rattle.rules.specs.declared.objects.Channel.{Channel}
 use Rattle.rules.specs.declared.objects.Channel.the-variants.{One}
 use Rattle.rules.specs.declared.parts.Identity.{Identity}
-use Rattle.rules.specs.Events.{onService, onFrame, onEvent, event}
+use Rattle.rules.specs.Events.{onService, onFrame, onEvent, NotRefused, event}
 use Rattle.rules.specs.Journal.{lengthOk}
 use Rattle.rules.specs.Network.{onNetwork, onCommand, start}
 use Rattle.rules.specs.Numbers.{twoAt}
@@ -44,11 +44,11 @@ pre-operational : device .network ≡ 127
 unfolding powerOn lengthOk fresh start
 pre-operational = refl
 
-fine : Fine device
+fine : NotRefused device
 fine = start-stays 1 noIdentity (fresh 1) accepted
 
 serves : Serves device
-serves = (fine .0, fine .1, ap served pre-operational)
+serves = (fine, ap served pre-operational)
 
 abbrev state : Result → State
 state r = r .state
@@ -133,7 +133,7 @@ answers-alike sensor alike meets =
 -- whatever the record, a read of 2100 gives its filled blocks
 filled-read : (c : Channel) (u : State) → Serves u → event (request c u) read2100 8 u .sent ≡ filledBlocks c u ∷ []
 unfolding onService commandOf find reply twoAt
-filled-read c u (range, fits, now) = ap sent (request-received false read2100 8 u range fits c) ∙ rw now refl
+filled-read c u ((range, fits), now) = ap sent (request-received false read2100 8 u range fits c) ∙ rw now refl
 
 pub invents-2100 : KeptOut Invents2100
 invents-2100 sensor (c, u, serves, invented) meets = invented (ap sent (meets (request c u) read2100 8 u) ∙ filled-read c u serves)

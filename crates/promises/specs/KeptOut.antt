@@ -10,11 +10,10 @@ use Rattle.rules.specs.declared.events.Event.the-variants.{Received}
 use Rattle.rules.specs.declared.events.Frame.{Frame}
 use Rattle.rules.specs.declared.objects.Channel.{Channel}
 use Rattle.rules.specs.declared.parts.Identity.{Identity}
-use Rattle.rules.specs.Events.{journalFits, event}
+use Rattle.rules.specs.Events.{NotRefused, event}
 use Rattle.rules.specs.Frames.{requestsAt, replyFrame}
 use Rattle.rules.specs.Numbers.{four}
 use Rattle.rules.specs.PowerOn.{powerOn}
-use Rattle.rules.specs.Ranges.{inRange}
 use Rattle.rules.specs.Service.{served}
 use Rattle.rules.specs.State.{State}
 
@@ -31,7 +30,7 @@ abbrev pub request : Channel → State → Event
 request c u = Received (record { identifier = requestsAt c + u .node; remote = false })
 
 abbrev pub Serves : State → Type 0
-Serves u = (inRange u ≡ true) × (journalFits u ≡ true) × (served (u .network) ≡ true)
+Serves u = NotRefused u × (served (u .network) ≡ true)
 
 -- "the sensor that refuses all"
 abbrev pub RefusesAll : Sensor → Type 0

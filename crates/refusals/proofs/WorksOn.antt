@@ -8,9 +8,9 @@ use borrow.Author.Tests.{eqb-true, eqb-false, eq-eqb}
 use lib.ListN.{length}
 use Rattle.laws.proofs.Bools.{not-false}
 use Rattle.rules.proofs.Refusals.{event-left, power-on-journal}
-use Rattle.rules.proofs.Stays.{Fine, fine-stays, start-stays}
+use Rattle.rules.proofs.Stays.{event-stays, start-stays}
 use Rattle.rules.specs.declared.events.Event.{Event}
-use Rattle.rules.specs.Events.{journalFits, event}
+use Rattle.rules.specs.Events.{journalFits, NotRefused, event}
 use Rattle.rules.specs.PowerOn.{powerOn}
 use Rattle.rules.specs.Ranges.{inRange}
 use Rattle.rules.specs.State.{State}
@@ -18,21 +18,21 @@ use Rattle.refusals.specs.WorksOn.{Given, after, lent, StaysInRange, Wor
 use Rattle.refusals.proofs.EventRows.{event-rows, right-record, right-journal}
 
 -- the same number of blocks is the same length
-length-kept : (u v : State) → Fine u → Fine v → v .saves .blocks ≡ u .saves .blocks → length (v .journal) ≡ length (u .journal)
+length-kept : (u v : State) → NotRefused u → NotRefused v → v .saves .blocks ≡ u .saves .blocks → length (v .journal) ≡ length (u .journal)
 length-kept u v was is same =
     let before = eqb-true (length (u .journal)) (512 * u .saves .blocks) (was .1) in
     let now = eqb-true (length (v .journal)) (512 * v .saves .blocks) (is .1) in
     now ∙ ap (λ (k : ℕ). 512 * k) same ∙ sym before
 
-after-fine : (gs : List Given) (u : State) → Fine u → Fine (after gs u) × (after gs u .saves .blocks ≡ u .saves .blocks)
+after-fine : (gs : List Given) (u : State) → NotRefused u → NotRefused (after gs u) × (after gs u .saves .blocks ≡ u .saves .blocks)
 after-fine [] u fine = (fine, refl)
 after-fine (g ∷ gs) u fine =
     let next = event (g .event) (g .bytes) (g .length) u .state in
-    let rest = after-fine gs next (fine-stays u fine (g .event) (g .bytes) (g .length)) in
+    let rest = after-fine gs next (event-stays u fine (g .event) (g .bytes) (g .length)) in
     (rest .0, rest .1 ∙ event-left (g .bytes) (g .length) u (g .event) .1)
 
 -- what is accepted is fine
-accepted-fine : (e : Event) (bytes : List ℕ) (n : ℕ) (u : State) → event e bytes n u .refusal ≡ 0 → Fine u
+accepted-fine : (e : Event) (bytes : List ℕ) (n : ℕ) (u : State) → event e bytes n u .refusal ≡ 0 → NotRefused u
 accepted-fine e bytes n u accepted =
     let right = event-rows e bytes n u .3 .0 accepted in
     (not-false (inRange u) (right .0), not-false (journalFits u) (λ other. right .1 (inr (eqb-false (length (u .journal)) (512 * u .saves .blocks) other))))
@@ -41,7 +41,7 @@ pub stays-in-range : StaysInRange
 stays-in-range e bytes n u accepted =
     let fine = accepted-fine e bytes n u accepted in
     let v = event e bytes n u .state in
-    let on = fine-stays u fine e bytes n in
+    let on = event-stays u fine e bytes n in
     (on .0, length-kept u v fine on (event-left bytes n u e .1))
 
 -- the journal is no part of the range
@@ -50,7 +50,7 @@ unfolding inRange
 range-lent u k range = range
 
 -- a journal of another length than the record's is refused with 1, and no other one
-other-length : (e : Event) (bytes : List ℕ) (n : ℕ) (k : List ℕ) (u : State) → Fine u → event e bytes n (lent k u) .refusal ≡ 1 ↔ ¬ (length k ≡ length (u .journal))
+other-length : (e : Event) (bytes : List ℕ) (n : ℕ) (k : List ℕ) (u : State) → NotRefused u → event e bytes n (lent k u) .refusal ≡ 1 ↔ ¬ (length k ≡ length (u .journal))
 other-length e bytes n k u fine =
     let range = range-lent u k (fine .0) in
     let own = eqb-true (length (u .journal)) (512 * u .saves .blocks) (fine .1) in

@@ -14,6 +14,7 @@ use Rattle.rules.specs.PowerOn.{savesIn, zeroState, powerOn}
 use Rattle.rules.specs.Ranges.{inRange, nodeOk}
 use Rattle.rules.specs.Results.{Result, refused}
 use Rattle.rules.specs.State.{State}
+use Rattle.rules.proofs.EachEvent.{power-each}
 use Rattle.rules.proofs.Accepted.{Accepted, frame-accepted, tick-accepted, reading-accepted}
 
 -- where it is refused, the state is the given one and nothing is sent
@@ -71,17 +72,13 @@ module _ (node : ℕ) (identity : Identity) (j : List ℕ) where
     then-starts whole = rw (ok, whole)
 
   pub power-on-untouched : Untouched (zeroState j) (powerOn node identity j)
-  unfolding powerOn start
-  power-on-untouched =
-      let P = Untouched (zeroState j) in
-      cond-both P (nodeOk node) (cond-both P (lengthOk j) (λ h. absurd (h refl)) (λ h. (refl, refl))) (λ h. (refl, refl))
+  unfolding start
+  power-on-untouched = power-each (Untouched (zeroState j)) node identity j (λ n l h. absurd (h refl)) (λ number h. (refl, refl))
 
   -- refused or accepted, power-on leaves the journal
   pub power-on-journal : powerOn node identity j .state .journal ≡ j
-  unfolding powerOn start
-  power-on-journal =
-      let P : Result → Type 0 = λ r. r .state .journal ≡ j in
-      cond-both P (nodeOk node) (cond-both P (lengthOk j) refl refl) refl
+  unfolding start
+  power-on-journal = power-each (λ (r : Result). r .state .journal ≡ j) node identity j (λ n l. refl) (λ number. refl)
 
 -- "the all-zero record, which every event refuses with 3"
 pub zero-out : (j : List ℕ) → inRange (zeroState j) ≡ false

@@ -5,7 +5,7 @@ use mathlib.Core.List.{List}
 use Prim.Native.Nat.{ℕ}
 use lib.Dec.{eqb}
 use lib.ListN.{getD}
-use Rattle.laws.proofs.Bools.{no, cond-each}
+use Rattle.laws.proofs.Bools.{no}
 use Rattle.rules.specs.declared.events.Event.the-variants.{Received}
 use Rattle.rules.specs.declared.parts.Identity.{Identity}
 use Rattle.rules.specs.Events.{onFrame, journalFits, event}
@@ -13,16 +13,7 @@ use Rattle.rules.specs.Journal.{lengthOk}
 use Rattle.rules.specs.Network.{start, onCommand, onNetwork}
 use Rattle.rules.specs.PowerOn.{savesIn, zeroState, powerOn}
 use Rattle.rules.specs.Ranges.{inRange, nodeOk}
-use Rattle.rules.specs.Results.{Result, refused}
 use Rattle.rules.specs.State.{State}
-
--- power-on is refused, or starts from what it finds in the journal
-pub power-each : (P : Result → Type 0) (node : ℕ) (identity : Identity) (j : List ℕ)
-    → (nodeOk node ≡ true → lengthOk j ≡ true → P (start node identity (savesIn j) j)) → ((number : ℕ) → P (refused number (zeroState j)))
-    → P (powerOn node identity j)
-unfolding powerOn
-power-each P node identity j on off =
-    cond-each P (nodeOk node) (λ n. cond-each P (lengthOk j) (λ l. on n l) (λ no. off 1)) (λ no. off 4)
 
 pub zero-refused : (j : List ℕ) {A : Type 0} → inRange (zeroState j) ≡ true → A
 unfolding inRange

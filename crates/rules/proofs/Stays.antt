@@ -1,22 +1,18 @@
 -- An event leaves a record in range and a journal at its length, and power-on gives them.
 use mathlib.Core.Path.{_≡_, refl}
-use mathlib.Core.Bool.{Bool, true, cond, _&&_, _||_}
+use mathlib.Core.Bool.{Bool, true, cond, _&&_}
 use mathlib.Core.List.{List}
-use Prim.Native.Nat.{ℕ, suc, _+_, _*_}
+use Prim.Native.Nat.{ℕ, suc, _*_}
 use native.Mathlib.Omega.{arith}
 use lib.Dec.{eqb, leb}
 use lib.IntN.{ℤ}
-use lib.ListN.{length, getD}
+use lib.ListN.{length}
 use borrow.Author.Tests.{eq-eqb}
 use Rattle.laws.proofs.Bools.{both, left, right, cond-both, cond-each}
 use Rattle.rules.specs.declared.errors.ErrorList.{ErrorList}
 use Rattle.rules.specs.declared.events.Event.{Event}
-use Rattle.rules.specs.declared.events.Event.the-variants.{Received, Tick, Measured}
-use Rattle.rules.specs.declared.events.FrameHead.{FrameHead}
 use Rattle.rules.specs.declared.objects.Axis.{Axis}
 use Rattle.rules.specs.declared.objects.Axis.the-variants.{X, Y}
-use Rattle.rules.specs.declared.objects.Channel.{Channel}
-use Rattle.rules.specs.declared.objects.Channel.the-variants.{One, Two}
 use Rattle.rules.specs.declared.objects.Setting.{Setting}
 use Rattle.rules.specs.declared.objects.Setting.the-variants.{Heartbeat, On, Transmission, Timer, Resolution, Operating, Preset, Offset, Differential}
 use Rattle.rules.specs.declared.parts.Identity.{Identity}
@@ -25,10 +21,9 @@ use Rattle.rules.specs.declared.parts.Reading.{Reading}
 use Rattle.rules.specs.declared.parts.Saves.{Saves}
 use Rattle.rules.specs.Block.{mostBlocks}
 use Rattle.rules.specs.Errors.{noErrors, entered}
-use Rattle.rules.specs.Events.{onService, onFrame, onEvent, frameOk, journalFits, event}
-use Rattle.rules.specs.Frames.{requestsAt}
+use Rattle.rules.specs.Events.{NotRefused, event}
 use Rattle.rules.specs.Journal.{blocksIn, lengthOk}
-use Rattle.rules.specs.Network.{started, start, communicating, onCommand, onNetwork}
+use Rattle.rules.specs.Network.{started, start, communicating}
 use Rattle.rules.specs.Numbers.{between}
 use Rattle.rules.specs.PowerOn.{savesIn, powerOn}
 use Rattle.rules.specs.Ranges.{inRange, nodeOk, networkOk, savesOk, errorsOk, elapsedOk, countsOk, syncsOk, axisOk}
@@ -37,16 +32,13 @@ use Rattle.rules.specs.Results.{Result}
 use Rattle.rules.specs.Settings.{synchronous, inTable, axisSettings, setting, within}
 use Rattle.rules.specs.State.{State, operational, stopped, preOperational, noCounts, moved, withNetwork}
 use Rattle.rules.specs.Time.{sending, timerRuns, syncCounts, onTick, onSync}
+use Rattle.rules.proofs.EachEvent.{each-event}
 use Rattle.rules.proofs.InRange.{InRange, parts, together}
 use Rattle.rules.proofs.Ranges.{no-errors-in, no-elapsed-in, no-counts-in, entered-in}
 use Rattle.rules.proofs.Run.{sized, saves-in}
 use Rattle.rules.proofs.Served.{served-in}
 use Rattle.rules.proofs.Table.{setting-in, in-table}
 use Rattle.rules.proofs.Moves.{elapsed-in, syncs-in, measured-in, code-in, none-in}
-
--- what is not refused: a record in range beside a journal of its length
-abbrev pub Fine : State → Type 0
-Fine u = (inRange u ≡ true) × (journalFits u ≡ true)
 
 stored-in : (saves : Saves) → savesOk saves ≡ true → inTable (saves .stored) ≡ true
 stored-in saves e = right (between 1 mostBlocks (saves .blocks) && leb (saves .filled) (saves .blocks) && leb (saves .spoiled) 1) (inTable (saves .stored)) e
@@ -69,21 +61,21 @@ started-in node identity saves j n s =
       y = none-in;
     })
 
-module _ (u : State) (fine : Fine u) where
+module _ (u : State) (fine : NotRefused u) where
   abbrev is : InRange u
   is = parts u (fine .0)
 
   -- the parts that the network, time and readings move
   moved-in : (network heartbeat : ℕ) (pdo : PdoCounts) (errors : ErrorList) (x y : Reading)
       → networkOk network ≡ true → elapsedOk (u .running .heartbeat) heartbeat ≡ true → countsOk (u .running .pdo) pdo ≡ true
-      → errorsOk errors ≡ true → axisOk x ≡ true → axisOk y ≡ true → Fine (moved network heartbeat pdo errors x y u)
+      → errorsOk errors ≡ true → axisOk x ≡ true → axisOk y ≡ true → NotRefused (moved network heartbeat pdo errors x y u)
   moved-in network heartbeat pdo errors x y n h p e f g = (
     together (moved network heartbeat pdo errors x y u)
         (record { node = is .node; network = n; saves = is .saves; running = is .running; errors = e; heartbeat = h; pdo = p; one = is .one; two = is .two; x = f; y = g }),
     fine .1,
   )
 
-  tick-stays : (ms : ℕ) → Fine (onTick ms u .state)
+  tick-stays : (ms : ℕ) → NotRefused (onTick ms u .state)
   unfolding onTick
   tick-stays ms =
       let period = u .running .pdo .timer in
@@ -93,12 +85,12 @@ module _ (u : State) (fine : Fine u) where
       (both (elapsed-in (timerRuns u) period count ms (left (elapsedOk period count) syncs (is .pdo))) (right (elapsedOk period count) syncs (is .pdo)))
       (is .errors) (is .x) (is .y)
 
-  sync-stays : Fine (onSync u .state)
+  sync-stays : NotRefused (onSync u .state)
   unfolding onSync
   sync-stays =
       let type = u .running .pdo .transmission in
       let elapsed = elapsedOk (u .running .pdo .timer) (u .pdo .elapsed) in
-      cond-each (λ (r : Result). Fine (r .state)) (syncCounts u)
+      cond-each (λ (r : Result). NotRefused (r .state)) (syncCounts u)
       (λ e. moved-in _ _ _ _ _ _ (is .network) (is .heartbeat)
       (both (left elapsed (syncsOk type (u .pdo .syncs)) (is .pdo)) (syncs-in type (u .pdo .syncs) (right (sending u) (synchronous type) e)))
       (is .errors) (is .x) (is .y))
@@ -107,7 +99,7 @@ module _ (u : State) (fine : Fine u) where
   errors-in : (a : Axis) (t : Bool) → errorsOk (cond t (entered (faultCode a) (u .errors)) (u .errors)) ≡ true
   errors-in a t = cond-both (λ (l : ErrorList). errorsOk l ≡ true) t (entered-in (faultCode a) (u .errors) (code-in a) (is .errors)) (is .errors)
 
-  reading-stays : (a : Axis) (m : ℤ) → Fine (onReading a m u .state)
+  reading-stays : (a : Axis) (m : ℤ) → NotRefused (onReading a m u .state)
   unfolding onReading
   reading-stays X m =
       moved-in _ _ _ _ _ _ (is .network) (is .heartbeat) (is .pdo) (errors-in X (fails m (u .x))) (measured-in m (u .x) (is .x)) (is .y)
@@ -115,7 +107,7 @@ module _ (u : State) (fine : Fine u) where
       moved-in _ _ _ _ _ _ (is .network) (is .heartbeat) (is .pdo) (errors-in Y (fails m (u .y))) (is .x) (measured-in m (u .y) (is .y))
 
   -- 82h: 1017 and 1800 of the stored settings beside the others
-  communicating-stays : Fine (communicating u)
+  communicating-stays : NotRefused (communicating u)
   communicating-stays =
       let stored = stored-in (u .saves) (is .saves) in (
         together (communicating u)
@@ -150,58 +142,37 @@ module _ (u : State) (fine : Fine u) where
       mixed e (Offset a) = rw (setting, axes a) (setting-in (u .running) (is .running) (Offset a))
       mixed e (Differential a) = rw (setting, axes a) (setting-in (u .running) (is .running) (Differential a))
 
-  command-stays : (command : ℕ) → Fine (onCommand command u .state)
-  unfolding onCommand start
-  command-stays command =
-      let P : Result → Type 0 = λ r. Fine (r .state) in
-      let to : (network : ℕ) (pdo : PdoCounts) → networkOk network ≡ true → countsOk (u .running .pdo) pdo ≡ true → Fine (withNetwork network pdo u) = λ network pdo n p. moved-in _ _ _ _ _ _ n (is .heartbeat) p (is .errors) (is .x) (is .y) in
-      cond-both P (eqb command 0x01) (to operational noCounts refl (no-counts-in (u .running .pdo)))
-      (cond-both P (eqb command 0x02) (to stopped (u .pdo) refl (is .pdo))
-      (cond-both P (eqb command 0x80) (to preOperational (u .pdo) refl (is .pdo))
-      (cond-both P (eqb command 0x81) (started-in (u .node) (u .identity) (u .saves) (u .journal) (is .node) (is .saves), fine .1)
-      (cond-both P (eqb command 0x82) communicating-stays fine))))
+  to : (network : ℕ) (pdo : PdoCounts) → networkOk network ≡ true → countsOk (u .running .pdo) pdo ≡ true → NotRefused (withNetwork network pdo u)
+  to network pdo n p = moved-in _ _ _ _ _ _ n (is .heartbeat) p (is .errors) (is .x) (is .y)
 
-  network-stays : (bytes : List ℕ) (length : ℕ) → Fine (onNetwork bytes length u .state)
-  unfolding onNetwork
-  network-stays bytes length =
-      let to = getD bytes 1 0 in
-      cond-both (λ (r : Result). Fine (r .state)) (eqb length 2 && (eqb to 0 || eqb to (u .node))) (command-stays (getD bytes 0 0)) fine
+  started-stays : NotRefused (start (u .node) (u .identity) (u .saves) (u .journal) .state)
+  unfolding start
+  started-stays = (started-in (u .node) (u .identity) (u .saves) (u .journal) (is .node) (is .saves), fine .1)
 
-  service-stays : (c : Channel) (bytes : List ℕ) (length : ℕ) → Fine (onService c bytes length u .state)
-  unfolding onService
-  service-stays c bytes length =
-      cond-both (λ (r : Result). Fine (r .state)) (eqb length 8) (served-in c bytes u (fine .0) (fine .1)) fine
-
-  frame-stays : (f : FrameHead) (bytes : List ℕ) (length : ℕ) → Fine (onFrame f bytes length u .state)
-  unfolding onFrame
-  frame-stays f bytes length =
-      let P : Result → Type 0 = λ r. Fine (r .state) in
-      cond-both P (f .remote) fine
-      (cond-both P (eqb (f .identifier) 0) (network-stays bytes length)
-      (cond-both P (eqb (f .identifier) 0x80 && eqb length 0) sync-stays
-      (cond-both P (eqb (f .identifier) (requestsAt One + u .node)) (service-stays One bytes length)
-      (cond-both P (eqb (f .identifier) (requestsAt Two + u .node)) (service-stays Two bytes length) fine))))
-
-  kind-stays : (e : Event) (bytes : List ℕ) (length : ℕ) → Fine (onEvent e bytes length u .state)
-  kind-stays (Received f) bytes length = cond-both (λ (r : Result). Fine (r .state)) (frameOk f length) (frame-stays f bytes length) fine
-  kind-stays (Tick ms) bytes length = tick-stays ms
-  kind-stays (Measured a m) bytes length = reading-stays a m
-
-  pub fine-stays : (e : Event) (bytes : List ℕ) (length : ℕ) → Fine (event e bytes length u .state)
-  unfolding event
-  fine-stays e bytes length = simp (fine .0, fine .1) (kind-stays e bytes length)
-
-pub event-stays : (e : Event) (bytes : List ℕ) (length : ℕ) (u : State) → inRange u ≡ true → journalFits u ≡ true → Fine (event e bytes length u .state)
-event-stays e bytes length u r fit = fine-stays u (r, fit) e bytes length
+  pub event-stays : (e : Event) (bytes : List ℕ) (length : ℕ) → NotRefused (event e bytes length u .state)
+  event-stays =
+      each-event u (λ (r : Result). NotRefused (r .state)) (λ number. fine)
+      (λ h. record {
+        unnamed = fine;
+        operational = to operational noCounts refl (no-counts-in (u .running .pdo));
+        stopped = to stopped (u .pdo) refl (is .pdo);
+        preOperational = to preOperational (u .pdo) refl (is .pdo);
+        started = started-stays;
+        communicated = communicating-stays;
+        synchronized = sync-stays;
+        ticked = tick-stays;
+        measured = reading-stays;
+        requested = λ c bytes. served-in c bytes u (fine .0) (fine .1);
+      })
 
 -- an accepted power-on
 abbrev Started : Result → Type 0
-Started r = r .refusal ≡ 0 → Fine (r .state)
+Started r = r .refusal ≡ 0 → NotRefused (r .state)
 
 never : {X : Type 0} (n : ℕ) → suc n ≡ 0 → X
 never n e = absurd (omega (arith, e))
 
-pub start-stays : (node : ℕ) (identity : Identity) (j : List ℕ) → powerOn node identity j .refusal ≡ 0 → Fine (powerOn node identity j .state)
+pub start-stays : (node : ℕ) (identity : Identity) (j : List ℕ) → powerOn node identity j .refusal ≡ 0 → NotRefused (powerOn node identity j .state)
 unfolding powerOn start savesIn
 start-stays node identity j =
     cond-each Started (nodeOk node)
