@@ -1,3 +1,4 @@
 pub mod OneResult
 pub mod Untouched
 pub mod KeptOut
+pub mod TwoFrames

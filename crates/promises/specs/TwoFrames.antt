@@ -1,0 +1,28 @@
+-- "The answer is the new device record and 0 to 2 frames": the answer has room for two, and no frame is lost in it.
+use mathlib.Core.Path.{_≡_}
+use mathlib.Core.Bool.{cond}
+use mathlib.Core.List.{List, [], _∷_}
+use Prim.Native.Nat.{ℕ}
+use lib.Dec.{eqb}
+use Rattle.device.specs.declared.Answer.{Answer}
+use Rattle.device.specs.declared.Device.{Device}
+use Rattle.device.specs.declared.Stepped.{Stepped}
+use Rattle.device.specs.Promise.{Answered, PoweredOn, eventOn}
+use Rattle.rules.specs.declared.events.Event.{Event}
+use Rattle.rules.specs.declared.events.Frame.{Frame}
+use Rattle.rules.specs.declared.parts.Identity.{Identity}
+use Rattle.rules.specs.PowerOn.{powerOn}
+
+-- the frames of an answer: as many as its count says
+abbrev pub framesIn : Answer → List Frame
+framesIn a = cond (eqb (a .count) 0) [] (cond (eqb (a .count) 1) (a .first ∷ []) (a .first ∷ a .second ∷ []))
+
+abbrev pub EventFrames : Type 0
+EventFrames =
+    (d : Device) (j : List ℕ) (e : Event) (bytes : List ℕ) (length : ℕ) (r : Stepped) (k : List ℕ) →
+    Answered d j e bytes length r k → framesIn (r .answer) ≡ eventOn d j e bytes length .sent
+
+abbrev pub PowerOnFrames : Type 0
+PowerOnFrames =
+    (node : ℕ) (identity : Identity) (j : List ℕ) (r : Stepped) →
+    PoweredOn node identity j r → framesIn (r .answer) ≡ powerOn node identity j .sent
