@@ -8,9 +8,14 @@
 
 enum { BLOCK = BASINTILT_BLOCK_BYTES, NODE = 47 };
 
+static bool power_on_as(uint32_t node, uint32_t length)
+{
+    return make_call((struct call){.kind = POWER_ON, .length = length, .power_on = {node, {1, 2, 3, 4}}});
+}
+
 static bool power_on_over(uint32_t length)
 {
-    return make_call((struct call){.kind = POWER_ON, .length = length, .power_on = {NODE, {1, 2, 3, 4}}});
+    return power_on_as(NODE, length);
 }
 
 static bool make_shape(enum journal_shape shape, uint32_t length, uint64_t seed)
@@ -45,8 +50,9 @@ static bool every_journal(void)
         uint32_t length = BLOCK * blocks[i % 7];
         begin_history();
         same = make_shape((enum journal_shape)(i / 7 % JOURNAL_SHAPES), length, i) && power_on_over(length)
-               && make_event(request(NODE, 0, 0x23, 0x1010, 1, BASINTILT_SAVE)) && make_event(request(NODE, 1, 0x23, 0x1011, 1, BASINTILT_LOAD))
-               && make_event(network_command(0x81, 0)) && make_event(network_command(0x82, NODE)) && power_on_over(length);
+               && make_event(request(NODE, 0, 0x23, 0x1010, 1, BASINTILT_SAVE))
+               && make_event(request(NODE, 1, 0x23, 0x1011, 1, BASINTILT_LOAD)) && make_event(network_command(0x81, 0))
+               && make_event(network_command(0x82, NODE)) && power_on_over(length);
     }
     return same;
 }
@@ -100,7 +106,7 @@ static bool every_node(void)
     bool same = true;
     begin_history();
     for (uint32_t node = 0; node < 600 && same; node++) {
-        same = make_call((struct call){.kind = POWER_ON, .length = BLOCK, .power_on = {node, {1, 2, 3, 4}}}) && make_event(network_command(0x01, node));
+        same = power_on_as(node, BLOCK) && make_event(network_command(0x01, node));
     }
     return same;
 }
@@ -135,7 +141,8 @@ static bool every_first_byte(void)
     for (uint32_t i = 0; i < 256 * OBJECTS * 2 && same; i++) {
         const struct object *object = &objects[i / 2 % OBJECTS];
         uint8_t first = (uint8_t)(i / 2 / OBJECTS);
-        same = make_event(request(NODE, i % 2, READS, 0x1008, 0, 0)) && make_event(request(NODE, i % 2, first, object->index, object->subindex, 0))
+        same = make_event(request(NODE, i % 2, READS, 0x1008, 0, 0))
+               && make_event(request(NODE, i % 2, first, object->index, object->subindex, 0))
                && make_event(request(NODE, i % 2, first, object->index, object->subindex, 0x01000001));
     }
     return same;

@@ -14,7 +14,10 @@ static const uint8_t weights[LEANINGS][TURNS] = {
 
 struct basintilt_happening network_command(uint32_t command, uint32_t node)
 {
-    return (struct basintilt_happening){.kind = BASINTILT_FRAME, .identifier = BASINTILT_NMT_AT, .length = 2, .bytes = {(uint8_t)command, (uint8_t)node}};
+    struct basintilt_happening frame = {.kind = BASINTILT_FRAME, .identifier = BASINTILT_NMT_AT, .length = 2};
+    frame.bytes[0] = (uint8_t)command;
+    frame.bytes[1] = (uint8_t)node;
+    return frame;
 }
 
 struct basintilt_happening sync_frame(void)
@@ -78,10 +81,24 @@ static uint8_t any_length(struct chance *chance)
     return (uint8_t)PICK(chance, 0, 2, 8, below(chance, 10), below(chance, 10), 9, any32(chance));
 }
 
-/* A frame that some rule names, with another identifier or length. */
+/* A frame that some rule names. */
+static struct basintilt_happening any_named(struct chance *chance, const struct basintilt_device *device)
+{
+    switch (below(chance, 5)) {
+    case 0:
+        return sync_frame();
+    case 1:
+    case 2:
+        return any_command(chance, device);
+    default:
+        return any_request(chance, device);
+    }
+}
+
+/* The same with another identifier or length. */
 static struct basintilt_happening stray_frame(struct chance *chance, const struct basintilt_device *device)
 {
-    struct basintilt_happening frame = one_in(chance, 2) ? any_request(chance, device) : any_command(chance, device);
+    struct basintilt_happening frame = any_named(chance, device);
     uint32_t turn = below(chance, 3);
     if (turn != 0) {
         frame.identifier = any_identifier(chance, device);
@@ -94,7 +111,7 @@ static struct basintilt_happening stray_frame(struct chance *chance, const struc
 
 static struct basintilt_happening remote_frame(struct chance *chance, const struct basintilt_device *device)
 {
-    struct basintilt_happening frame = one_in(chance, 3) ? stray_frame(chance, device) : one_in(chance, 2) ? any_request(chance, device) : any_command(chance, device);
+    struct basintilt_happening frame = one_in(chance, 3) ? stray_frame(chance, device) : any_named(chance, device);
     frame.kind = BASINTILT_REMOTE_FRAME;
     return frame;
 }

@@ -22,22 +22,22 @@ static bool compare(uint64_t events, uint64_t seed)
 {
     struct chance chance = {seed};
     bool same = built_cases();
-    unsigned long long built = counts.calls[EVENT];
-    printf("built cases: %llu events\n", built);
+    printf("built cases: %llu events\n", (unsigned long long)counts.calls[EVENT]);
     while (same && counts.calls[EVENT] < events) {
         same = wander(any64(&chance));
     }
     if (!same) {
         show_difference(seed);
+        return false;
     }
-    return show_counts() && same;
+    return show_counts();
 }
 
 /* The reference is made to say something wrong: the difference must be seen, and shown by a few calls. */
 static bool sees_fault(enum fault fault)
 {
     bool same = true;
-    static const char *const names[FAULTS] = {[WRONG_FRAME_BYTE] = "a frame's byte", [WRONG_FIELD] = "a field", [WRONG_JOURNAL_BYTE] = "a byte of the journal"};
+    static const char *const names[FAULTS] = {"nothing", "a frame's byte", "a field", "a byte of the journal"};
     printf("the reference is wrong on purpose in %s: ", names[fault]);
     pair.fault = fault;
     for (uint64_t seed = 0; same && seed < 1000; seed++) {
@@ -58,7 +58,7 @@ int main(int count, char **words)
         for (unsigned fault = NO_FAULT + 1; fault < FAULTS; fault++) {
             passed = sees_fault((enum fault)fault) && passed;
         }
-        printf("%s\n", passed ? "every difference made on purpose was seen and shrunk" : "FAILED: a difference was not seen, or its history stayed long");
+        printf(passed ? "each difference made on purpose was seen and shrunk\n" : "FAILED: one was not seen, or its history stayed long\n");
     } else if (count == 3) {
         passed = compare(strtoull(words[1], NULL, 10), strtoull(words[2], NULL, 10));
         printf("%llu events compared: %s\n", (unsigned long long)counts.calls[EVENT], passed ? "no difference" : "FAILED");

@@ -38,9 +38,10 @@ static struct basintilt_errors any_errors(struct chance *chance)
 
 static struct basintilt_reading any_reading(struct chance *chance)
 {
+    const uint32_t far = BASINTILT_FARTHEST;
     struct basintilt_reading reading;
     reading.state = (uint8_t)PICK(chance, BASINTILT_NONE, BASINTILT_GOOD_AXIS, BASINTILT_GOOD_AXIS, BASINTILT_FAULTY);
-    reading.m = (int32_t)PICK(chance, 0, 0u - BASINTILT_FARTHEST, BASINTILT_FARTHEST, below(chance, 2 * BASINTILT_FARTHEST + 1) - BASINTILT_FARTHEST);
+    reading.m = (int32_t)PICK(chance, 0, 0u - far, far, below(chance, 2 * far + 1) - far);
     if (reading.state == BASINTILT_NONE) {
         reading.m = 0;
     }

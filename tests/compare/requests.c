@@ -75,7 +75,8 @@ static uint8_t first_of_write(struct chance *chance, const struct object *object
     return (uint8_t)(one_in(chance, 5) ? WRITES_OWN_LENGTH : exact);
 }
 
-static struct basintilt_happening any_write(struct chance *chance, const struct basintilt_device *device, unsigned channel, const struct object *object)
+static struct basintilt_happening any_write(struct chance *chance, const struct basintilt_device *device, unsigned channel,
+                                            const struct object *object)
 {
     uint32_t value = fitting_value(chance, device, object);
     uint8_t first = first_of_write(chance, object);
@@ -114,10 +115,12 @@ static struct basintilt_happening transfer_request(struct chance *chance, const 
 static struct basintilt_happening stray_request(struct chance *chance, const struct basintilt_device *device, unsigned channel)
 {
     const struct object *object = &objects[below(chance, OBJECTS)];
-    uint32_t index = one_in(chance, 2) ? object->index : PICK(chance, object->index + 1u, object->index - 1u, object->index ^ 1u << below(chance, 16), any32(chance));
+    uint32_t index = object->index;
+    uint32_t other = PICK(chance, index + 1, index - 1, index ^ 1u << below(chance, 16), any32(chance));
     uint32_t subindex = PICK(chance, object->subindex, object->subindex + 1u, 3, 4, 6, 255, below(chance, 256));
     uint8_t first = (uint8_t)PICK(chance, READS, READS, 0x22, 0x23, 0x2F, any32(chance));
-    return request(device->node, channel, first, index, subindex, any32(chance));
+    uint32_t value = any32(chance);
+    return request(device->node, channel, first, one_in(chance, 2) ? index : other, subindex, value);
 }
 
 struct basintilt_happening any_request(struct chance *chance, const struct basintilt_device *device)

@@ -17,7 +17,8 @@ static void show_happening(const struct basintilt_happening *happening)
     switch (happening->kind) {
     case BASINTILT_FRAME:
     case BASINTILT_REMOTE_FRAME:
-        printf("%s %03X length %u ", happening->kind == BASINTILT_FRAME ? "frame" : "remote frame", happening->identifier, happening->length);
+        printf(happening->kind == BASINTILT_FRAME ? "frame" : "remote frame");
+        printf(" %03X length %u ", happening->identifier, happening->length);
         show_bytes(happening->bytes, happening->length);
         break;
     case BASINTILT_TICK:
@@ -66,8 +67,8 @@ static void show_call(const struct call *call)
 {
     switch (call->kind) {
     case POWER_ON:
-        printf("power-on node %u identity %X %X %X %X", call->power_on.node, call->power_on.identity.vendor, call->power_on.identity.product,
-               call->power_on.identity.revision, call->power_on.identity.serial);
+        printf("power-on node %u identity %X %X", call->power_on.node, call->power_on.identity.vendor, call->power_on.identity.product);
+        printf(" %X %X", call->power_on.identity.revision, call->power_on.identity.serial);
         break;
     case EVENT:
         show_happening(&call->happening);

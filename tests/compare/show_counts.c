@@ -7,7 +7,9 @@
 
 static void show_call(unsigned which)
 {
-    static const char *const names[CALL_KINDS] = {"power-on", "event", "block query", "journal made", "byte written", "record made", "field written"};
+    static const char *const names[CALL_KINDS] = {
+        "power-on", "event", "block query", "journal made", "byte written", "record made", "field written",
+    };
     printf("%s", names[which]);
 }
 
@@ -92,7 +94,9 @@ static bool ends_with(const char *text, const char *end)
 /* Every angle, stored timer and identity is in range; a running timer is not where the elapsed count is beyond it. */
 static bool has_range(unsigned field)
 {
-    static const char *const without[] = {"vendor", "product", "revision", "serial", "preset", "offset", "differential", "stored.pdo.timer"};
+    static const char *const without[] = {
+        "vendor", "product", "revision", "serial", "preset", "offset", "differential", "stored.pdo.timer",
+    };
     for (unsigned i = 0; i < sizeof without / sizeof without[0]; i++) {
         if (field >= field_count || ends_with(fields[field].name, without[i])) {
             return false;
