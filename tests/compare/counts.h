@@ -6,7 +6,7 @@
 #include "objects.h"
 #include "pair.h"
 
-enum { CHANNELS = 2, REFUSALS = 5, EVENT_KINDS = 6, ABORTS = 13, REPLIES = 8, LENGTH_CLASSES = 4, MOST_FIELDS = 64 };
+enum { CHANNELS = 2, REFUSALS = 5, EVENT_KINDS = 6, ABORTS = 13, REPLIES = 8, LENGTH_CLASSES = 4 };
 
 enum {
     BOOT_UP_AT_POWER_ON,
@@ -38,7 +38,7 @@ struct counts {
     uint64_t writes[OBJECTS];
     uint64_t queries[3];
     uint64_t journals[JOURNAL_SHAPES * LENGTH_CLASSES];
-    uint64_t fields_refused[MOST_FIELDS];
+    uint64_t fields_refused[FIELDS];
 };
 
 extern struct counts counts;

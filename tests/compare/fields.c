@@ -54,7 +54,7 @@ const struct field fields[] = {
     SIGNED(y.m, axes[1].m),
 };
 
-const unsigned field_count = sizeof fields / sizeof fields[0];
+_Static_assert(sizeof fields / sizeof fields[0] == FIELDS, "fields of the record");
 
 static uint32_t number_at(const void *at, unsigned size)
 {
@@ -107,14 +107,14 @@ void write_field(struct basintilt_device *device, struct reference_record *recor
 void copy_record(struct reference_record *record, const struct basintilt_device *device)
 {
     memset(record, 0, sizeof *record);
-    for (unsigned i = 0; i < field_count; i++) {
+    for (unsigned i = 0; i < FIELDS; i++) {
         memcpy((uint8_t *)record + fields[i].in_reference, library_place(device, &fields[i]), fields[i].size);
     }
 }
 
 const struct field *differing_field(const struct basintilt_device *device, const struct reference_record *record)
 {
-    for (unsigned i = 0; i < field_count; i++) {
+    for (unsigned i = 0; i < FIELDS; i++) {
         const struct field *field = &fields[i];
         if (number_at(library_place(device, field), field->size) != number_at(reference_place(record, field), field->size)) {
             return field;

@@ -13,8 +13,9 @@ struct field {
     uint8_t is_signed;
 };
 
+enum { FIELDS = 50 };
+
 extern const struct field fields[];
-extern const unsigned field_count;
 
 int64_t field_of_library(const struct basintilt_device *device, const struct field *field);
 int64_t field_of_reference(const struct reference_record *record, const struct field *field);

@@ -1,7 +1,7 @@
 /* The paper's object table, as far as making requests needs it. */
 #include "objects.h"
 
-const struct object objects[OBJECTS] = {
+const struct object objects[] = {
     {0x1000, 0, 4, 0}, {0x1001, 0, 1, 0},
     {0x1003, 0, 1, 1}, {0x1003, 1, 4, 0}, {0x1003, 2, 4, 0}, {0x1003, 3, 4, 0}, {0x1003, 4, 4, 0}, {0x1003, 5, 4, 0},
     {0x1005, 0, 4, 0}, {0x1008, 0, 0, 0},
@@ -15,6 +15,8 @@ const struct object objects[OBJECTS] = {
     {0x6010, 0, 2, 0}, {0x6011, 0, 1, 1}, {0x6012, 0, 2, 1}, {0x6013, 0, 2, 0}, {0x6014, 0, 2, 1},
     {0x6020, 0, 2, 0}, {0x6021, 0, 1, 1}, {0x6022, 0, 2, 1}, {0x6023, 0, 2, 0}, {0x6024, 0, 2, 1},
 };
+
+_Static_assert(sizeof objects / sizeof objects[0] == OBJECTS, "objects of the paper");
 
 unsigned object_named(const uint8_t *bytes)
 {

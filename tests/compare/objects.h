@@ -13,7 +13,7 @@ struct object {
 
 enum { OBJECTS = 47 };
 
-extern const struct object objects[OBJECTS];
+extern const struct object objects[];
 
 /* Which object three bytes of a request or reply name; OBJECTS where none. */
 unsigned object_named(const uint8_t *bytes);

@@ -37,7 +37,7 @@ static void show_happening(const struct basintilt_happening *happening)
 /* The fields that are not 0. */
 static void show_record(const struct basintilt_device *device)
 {
-    for (unsigned i = 0; i < field_count; i++) {
+    for (unsigned i = 0; i < FIELDS; i++) {
         long long number = field_of_library(device, &fields[i]);
         if (number != 0) {
             printf(" %s=%lld", fields[i].name, number);

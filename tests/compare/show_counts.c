@@ -98,7 +98,7 @@ static bool has_range(unsigned field)
         "vendor", "product", "revision", "serial", "preset", "offset", "differential", "stored.pdo.timer",
     };
     for (unsigned i = 0; i < sizeof without / sizeof without[0]; i++) {
-        if (field >= field_count || ends_with(fields[field].name, without[i])) {
+        if (ends_with(fields[field].name, without[i])) {
             return false;
         }
     }

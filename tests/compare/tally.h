@@ -11,7 +11,7 @@ struct tally {
     uint64_t *counts;
     unsigned size;
     void (*show_label)(unsigned which);
-    bool in_full;              /* each count on the line, or only how many were reached and the least */
+    bool in_full; /* each count on the line, or only how many were reached and the least */
     bool (*needed)(unsigned which); /* NULL where all are */
 };
 

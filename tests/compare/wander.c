@@ -53,7 +53,7 @@ static bool make_any_record(struct chance *chance)
 static bool write_any_field(struct chance *chance)
 {
     struct call call = {.kind = FIELD_WRITTEN};
-    call.written.at = below(chance, field_count);
+    call.written.at = below(chance, FIELDS);
     call.written.number = number_for_field(chance, &pair.device);
     return make_call(call);
 }
