@@ -73,6 +73,19 @@ static bool every_bit_and_stop(void)
     return same;
 }
 
+/* Blocks of every number, asked about at this number, at the next one and at its low byte. */
+static bool every_number(void)
+{
+    bool same = true;
+    for (uint32_t i = 0; i < 300 + 32 && same; i++) {
+        uint32_t number = i < 300 ? i : 1u << (i - 300);
+        begin_history();
+        same = make_shape(NUMBERED, BLOCK, number) && ask(0, BLOCK, number) && ask(0, BLOCK, number + 1) && ask(0, BLOCK, number % 256)
+               && power_on_over(BLOCK);
+    }
+    return same;
+}
+
 /* A good block at every place asked about, and at every length lent. */
 static bool every_query(void)
 {
@@ -193,6 +206,6 @@ static bool every_type(void)
 
 bool built_cases(void)
 {
-    return every_journal() && every_bit_and_stop() && every_query() && every_length() && every_node() && every_head() && every_command()
-           && every_first_byte() && every_object() && every_value() && every_type();
+    return every_journal() && every_bit_and_stop() && every_number() && every_query() && every_length() && every_node()
+           && every_head() && every_command() && every_first_byte() && every_object() && every_value() && every_type();
 }

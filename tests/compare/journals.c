@@ -6,7 +6,7 @@
 #include <string.h>
 
 const char *const shape_names[JOURNAL_SHAPES] = {
-    "blank", "good", "full", "half-written", "spoiled", "bit-flipped", "field out of range", "zeroed", "noise",
+    "blank", "good", "full", "half-written", "spoiled", "bit-flipped", "field out of range", "zeroed", "numbered", "noise",
 };
 
 enum { BLOCK = BASINTILT_BLOCK_BYTES, CHECK_AT = 510 };
@@ -103,6 +103,7 @@ static uint32_t run_of(struct chance *chance, enum journal_shape shape, uint32_t
 {
     switch (shape) {
     case BLANK_JOURNAL:
+    case NUMBERED:
     case NOISE:
         return 0;
     case FULL_JOURNAL:
@@ -151,6 +152,9 @@ void make_journal(uint8_t *journal, uint32_t length, enum journal_shape shape, u
     }
     if (shape == BIT_FLIPPED) {
         flip_bit(&chance, journal, BLOCK * run);
+    }
+    if (shape == NUMBERED) {
+        make_block(&chance, journal, (uint32_t)seed);
     }
     if (shape == NOISE) {
         for (uint32_t i = 0; i < length; i++) {

@@ -14,6 +14,7 @@ enum journal_shape {
     BIT_FLIPPED,         /* one bit of the run is turned */
     FIELD_OUT_OF_RANGE,  /* a right check over a field that is out of range */
     ZEROED,              /* the block behind the run is all zero: its check is right */
+    NUMBERED,            /* the first block is good but for its number, the seed's low half */
     NOISE,
     JOURNAL_SHAPES
 };

@@ -6,6 +6,8 @@
 #include "journals.h"
 #include "records.h"
 
+#include <string.h>
+
 enum { BLOCK = BASINTILT_BLOCK_BYTES };
 
 /* Long journals are rare: every byte of them is compared after each call. */
@@ -74,6 +76,8 @@ static bool ask_any_block(struct chance *chance, uint32_t length)
     call.query.place = place;
     if (one_in(chance, 4)) {
         call.query.place = PICK(chance, 0, place + 1, place - 1, 128, 129, place + 256, place + 0x10000, any32(chance));
+    } else if (one_in(chance, 4)) {
+        memcpy(&call.query.place, pair.journal + call.query.at, 4); /* the block's own number, be it a place or not */
     }
     if (one_in(chance, 8)) {
         call.length = PICK(chance, 0, 1, 511, 513, 1024, below(chance, 1024));
