@@ -1,0 +1,15 @@
+/* Settings in range, their ends more often than their middle. */
+#ifndef COMPARE_SETTINGS_H
+#define COMPARE_SETTINGS_H
+
+#include "basintilt.h"
+#include "chance.h"
+
+uint16_t any_heartbeat(struct chance *chance);
+uint8_t any_transmission(struct chance *chance);
+uint16_t any_timer(struct chance *chance);
+uint16_t any_resolution(struct chance *chance);
+int16_t any_angle(struct chance *chance);
+struct basintilt_settings any_settings(struct chance *chance);
+
+#endif

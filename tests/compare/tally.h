@@ -1,0 +1,21 @@
+/* A class of things to be reached, with a count for each. */
+#ifndef COMPARE_TALLY_H
+#define COMPARE_TALLY_H
+
+#include <stdbool.h>
+#include <stddef.h>
+#include <stdint.h>
+
+struct tally {
+    const char *name;
+    uint64_t *counts;
+    unsigned size;
+    void (*show_label)(unsigned which);
+    bool in_full; /* each count on the line, or only how many were reached and the least */
+    bool (*needed)(unsigned which); /* NULL where all are */
+};
+
+/* Prints a line; false where something needed was never reached. */
+bool show_tally(const struct tally *tally);
+
+#endif
