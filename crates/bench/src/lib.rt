@@ -41,7 +41,7 @@ fn print_answer(answer: Answer) {
 
 // Two fresh blank blocks.
 fn make_blank(journal: &mut [u8]) {
-    let image = block::blank_image();
+    let image = image::blank();
     if 1024 <= journal.len() {
         bytes::copy(&image, &mut journal[0..512]);
         bytes::copy(&image, &mut journal[512..1024]);
