@@ -135,7 +135,7 @@ fn write(channel: Channel, request: [u8; 8], given: u8, v: View) -> Outcome
     let Found::At(o) = found else {
         return refuse(request, missing_code(found));
     };
-    let value = requests::value(objects::size(o), request);
+    let value = requests::value(rows::size(o), request);
     write_outcome(request, writes::write(channel, given, o, value, v))
 }
 
