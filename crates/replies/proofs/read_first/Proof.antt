@@ -1,7 +1,7 @@
 -- `read_first` meets its contract: an arm knows its length, and the last that it is neither 1 nor 2.
 use borrow.Author.Tests.{ne-eqb}
-use Rattle.requests.proofs.read_first.Statement.{statement}
-use Rattle.requests.proofs.read_first.Tie as tie
+use Rattle.replies.proofs.read_first.Statement.{statement}
+use Rattle.replies.proofs.read_first.Tie as tie
 
 pub read-first-spec : {M : Type 1} → statement M
 read-first-spec =

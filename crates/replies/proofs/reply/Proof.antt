@@ -1,8 +1,8 @@
 -- `reply` meets its contract: each of its eight bytes is the one that is asked for.
 use borrow.Author.Needs.{needs}
 use Rattle.rules.specs.Replies.{reply}
-use Rattle.requests.proofs.reply.Statement.{statement}
-use Rattle.requests.proofs.reply.Tie as tie
+use Rattle.replies.proofs.reply.Statement.{statement}
+use Rattle.replies.proofs.reply.Tie as tie
 
 pub reply-spec : {M : Type 1} → statement M
 unfolding reply
