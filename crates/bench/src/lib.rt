@@ -3,7 +3,7 @@ use device::Answer;
 use device::Device;
 use libc::STDIN_FILENO;
 use libc::STDOUT_FILENO;
-use lines::Line;
+use plain_lines::Line;
 use rules::parts::Identity;
 use texts::Text;
 
