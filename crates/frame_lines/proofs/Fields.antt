@@ -13,8 +13,9 @@ use Rattle.laws.proofs.Bools.{first-of, one-of}
 use Rattle.laws.specs.Lists.{elements}
 use Rattle.rules.proofs.Numbers.{to-most}
 use Rattle.rules.specs.Numbers.{between}
-use Rattle.numerals.proofs.Digits.{bytes-count}
-use Rattle.numerals.specs.Numerals.{bytesIn, digits}
+use Rattle.hex_pairs.proofs.Pairs.{bytes-count}
+use Rattle.hex_pairs.specs.Pairs.{bytesIn}
+use Rattle.numerals.specs.Numerals.{digits}
 use Rattle.plain_lines.specs.declared.Line.the-variants.{Malformed}
 use Rattle.frame_lines.specs.Reading.{frame, frameOf, identifierIn, joined, plain, received, untilBlank}
 

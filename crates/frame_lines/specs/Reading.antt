@@ -9,7 +9,8 @@ use Rattle.rules.specs.declared.events.Event.the-variants.{Received}
 use Rattle.rules.specs.Numbers.{between}
 use Rattle.numerals.specs.declared.Number.{Number}
 use Rattle.numerals.specs.declared.Number.the-variants.{Of, Not}
-use Rattle.numerals.specs.Numerals.{bytesIn, digits, numberIn}
+use Rattle.numerals.specs.Numerals.{digits, numberIn}
+use Rattle.hex_pairs.specs.Pairs.{bytesIn}
 use Rattle.plain_lines.specs.declared.Line.{Line}
 use Rattle.plain_lines.specs.declared.Line.the-variants.{Happens, Malformed}
 use Rattle.frame_lines.specs.declared.Parsed.{Parsed}

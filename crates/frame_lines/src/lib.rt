@@ -54,7 +54,7 @@ fn joined(s: &[u8]) -> bool
     ensures { λ r. ⌜ r ≡ Reading.joined (now (s .entry)) ⌝ }
 {
     let n = s.len();
-    numerals::hex(s) & (n % 2 == 0) & ((1 <= n / 2) & (n / 2 <= 9))
+    hex_pairs::hex(s) & (n % 2 == 0) & ((1 <= n / 2) & (n / 2 <= 9))
 }
 
 fn received(number: Number, bytes: [u8; 8], length: u8) -> Parsed
@@ -86,7 +86,7 @@ pub fn frame(field: &[u8]) -> Parsed
     if joined(pairs) {
         return received(
             number,
-            numerals::first_eight(pairs),
+            hex_pairs::first_eight(pairs),
             (pairs.len() / 2) as u8,
         );
     }

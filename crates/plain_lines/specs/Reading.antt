@@ -11,7 +11,8 @@ use Rattle.rules.specs.declared.objects.Axis.the-variants.{X, Y}
 use Rattle.rules.specs.Numbers.{between, minus}
 use Rattle.numerals.specs.declared.Number.{Number}
 use Rattle.numerals.specs.declared.Number.the-variants.{Of, Not}
-use Rattle.numerals.specs.Numerals.{bytesIn, decimalIn, digits}
+use Rattle.numerals.specs.Numerals.{decimalIn, digits}
+use Rattle.hex_pairs.specs.Pairs.{bytesIn}
 use Rattle.plain_lines.specs.declared.Line.{Line}
 use Rattle.plain_lines.specs.declared.Line.the-variants.{PowerOn, Happens, Malformed}
 

@@ -18,8 +18,8 @@ const FARTHEST: u32 = 0x80000000;
 fn power_on(field: &[u8]) -> Line
     ensures { λ r. ⌜ r ≡ Reading.powerOn (now (field .entry)) ⌝ }
 {
-    if numerals::hex(field) & (field.len() == 2) {
-        return Line::PowerOn(numerals::pair_at(field, 0));
+    if hex_pairs::hex(field) & (field.len() == 2) {
+        return Line::PowerOn(hex_pairs::pair_at(field, 0));
     }
     Line::Malformed
 }
