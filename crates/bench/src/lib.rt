@@ -9,8 +9,6 @@ use texts::Text;
 
 const LINE_FEED: u8 = 10;
 
-const MALFORMED: u8 = 5;
-
 // The sensor, and the line that is being read.
 struct Bench {
     device: Device,
@@ -76,7 +74,7 @@ fn run(device: Device, journal: &mut [u8], text: Text) -> Device {
             stepped.device
         }
         Line::Malformed => {
-            print(printing::refusal_text(MALFORMED));
+            print(printing::refusal_text(lines::refusal(line)));
             device
         }
     }
