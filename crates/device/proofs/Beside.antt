@@ -14,12 +14,12 @@ use Rattle.rules.specs.Readings.{onReading}
 use Rattle.rules.specs.Results.{Result}
 use Rattle.rules.specs.Time.{syncCounts, onTick, onSync}
 use Rattle.device.specs.declared.Device.{Device}
-use Rattle.device.specs.Answers.{movedOf}
+use Rattle.device.specs.Answers.{steppedOf}
 use Rattle.device.specs.Seen.{seen, alone}
 
 -- r leaves the journal j, and moves the record as s does
 pub record Beside (j : List ℕ) (r s : Result) : Type 0 where
-  pub same : movedOf r ≡ movedOf s
+  pub same : steppedOf r ≡ steppedOf s
   pub kept : r .state .journal ≡ j
 
 pub either : (j : List ℕ) (t : Bool) {a b c d : Result} → Beside j a b → Beside j c d → Beside j (cond t a c) (cond t b d)

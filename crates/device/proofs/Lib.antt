@@ -1,3 +1,4 @@
 pub mod Acted
 pub mod Beside
+pub mod Refused
 pub mod Views

@@ -1,8 +1,9 @@
 -- The device record and a lent journal as the rules' state, and back.
 use mathlib.Core.Path.{_≡_}
-use mathlib.Core.Bool.{true}
+use mathlib.Core.Bool.{true, cond}
 use mathlib.Core.List.{List, []}
-use Prim.Native.Nat.{ℕ}
+use Prim.Native.Nat.{ℕ, _*_}
+use lib.Dec.{eqb}
 use Rattle.rules.specs.Ranges.{inRange}
 use Rattle.rules.specs.State.{State}
 use Rattle.device.specs.declared.Device.{Device}
@@ -46,3 +47,7 @@ alone d = seen d []
 
 abbrev pub Ranged : Device → Type 0
 Ranged d = inRange (alone d) ≡ true
+
+-- the refusal that the record, or the length of its journal, brings to any event; 0 where it is none
+abbrev pub refusalOf : ℕ → State → ℕ
+refusalOf length u = cond (inRange u) (cond (eqb length (512 * u .saves .blocks)) 0 1) 3

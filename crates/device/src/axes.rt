@@ -1,7 +1,7 @@
 // Readings of an axis.
+use crate::Answer;
 use crate::Device;
-use crate::Moved;
-use crate::Sent;
+use crate::Stepped;
 use rules::errors::ErrorList;
 use rules::objects::Axis;
 use rules::parts::Reading;
@@ -13,7 +13,7 @@ ghost use lib.Dec.{eqb};
 ghost use Rattle.rules.specs.Frames.{emergency};
 ghost use Rattle.rules.specs.Readings.{registerOf, ifNotStopped, onReading};
 ghost use Rattle.rules.specs.State.{reading as readingOf, withReading};
-ghost use Rattle.device.specs.Answers.{sentOf, movedOf};
+ghost use Rattle.device.specs.Answers.{answering, steppedOf};
 ghost use Rattle.device.specs.Seen.{alone, held};
 
 impl Device {
@@ -49,26 +49,26 @@ impl Device {
     }
 
     // The emergency of a fault, or of the register that came back to 0.
-    fn alarmed(self, fault: bool, code: u16, before: u8) -> Sent
-        ensures { λ r. ⌜ r ≡ sentOf (ifNotStopped (self .network)
+    fn alarmed(self, fault: bool, code: u16, before: u8) -> Answer
+        ensures { λ r. ⌜ r ≡ answering 0 (ifNotStopped (self .network)
             (cond fault (emergency (self .node) code (registerOf (alone self)) ∷ [])
             (cond (not (eqb before 0) && eqb (registerOf (alone self)) 0) (emergency (self .node) 0 (registerOf (alone self)) ∷ []) []))) ⌝ }
     {
         let register = self.register();
         if self.network == states::STOPPED {
-            return Sent::none();
+            return Answer::silent(0);
         }
         if fault {
-            return Sent::one(frames::emergency(self.node, code, register));
+            return Answer::one(frames::emergency(self.node, code, register));
         }
         if (before != 0) & (register == 0) {
-            return Sent::one(frames::emergency(self.node, 0, register));
+            return Answer::one(frames::emergency(self.node, 0, register));
         }
-        Sent::none()
+        Answer::silent(0)
     }
 
-    pub fn measure(self, axis: Axis, m: i32) -> Moved
-        ensures { λ r. ⌜ r ≡ movedOf (onReading axis m (alone self)) ⌝ }
+    pub fn measure(self, axis: Axis, m: i32) -> Stepped
+        ensures { λ r. ⌜ r ≡ steppedOf (onReading axis m (alone self)) ⌝ }
     {
         let old = self.reading(axis);
         let before = self.register();
@@ -76,7 +76,7 @@ impl Device {
         let code = readings::fault_code(axis);
         let list = readings::listed(fault, code, self.errors);
         let device = self.with_reading(axis, readings::measured(m, old), list);
-        let sent = device.alarmed(fault, code, before);
-        Moved { device, sent }
+        let answer = device.alarmed(fault, code, before);
+        Stepped { device, answer }
     }
 }

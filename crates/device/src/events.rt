@@ -1,7 +1,5 @@
 // One event: refused by number, or what it does.
 use crate::Device;
-use crate::Moved;
-use crate::Sent;
 use crate::Stepped;
 use rules::events::Event;
 use rules::events::FrameHead;
@@ -9,11 +7,10 @@ use rules::objects::Channel;
 ghost use mathlib.Core.Path.{_≡_};
 ghost use Prim.Native.Nat.{_*_};
 ghost use lib.ListN.{length as lengthOf};
-ghost use Rattle.rules.specs.Events.{onFrame, onEvent};
-ghost use Rattle.rules.specs.Results.{refused};
-ghost use Rattle.device.specs.Answers.{movedOf, steppedOf};
+ghost use Rattle.rules.specs.Events.{onFrame};
+ghost use Rattle.device.specs.Answers.{steppedOf};
 ghost use Rattle.device.specs.Promise.{Answered};
-ghost use Rattle.device.specs.Seen.{alone, seen, Ranged};
+ghost use Rattle.device.specs.Seen.{alone, seen, Ranged, refusalOf};
 
 const RECORD_OUT_OF_RANGE: u8 = 3;
 
@@ -28,24 +25,14 @@ const MOST_LENGTH: u8 = 8;
 const SYNC_AT: u32 = 0x80;
 
 impl Device {
-    // Nothing is sent, and the record stays.
-    fn refuse(self, refusal: u8) -> Stepped
-        ensures { λ r. ⌜ r ≡ steppedOf (refused refusal (alone self)) ⌝ }
-    {
-        Stepped {
-            device: self,
-            answer: Sent::none().answer(refusal),
-        }
-    }
-
     // A frame that some rule names, or that does nothing.
-    fn receive(self, journal: &mut [u8], head: FrameHead, bytes: [u8; 8], length: u8) -> Moved
+    fn receive(self, journal: &mut [u8], head: FrameHead, bytes: [u8; 8], length: u8) -> Stepped
         requires { ⌜ (Ranged self) × (lengthOf (now journal) ≡ 512 * self .saves .blocks) ⌝ }
-        ensures { λ r. ⌜ (r ≡ movedOf (onFrame head bytes length (seen self (now (journal .entry)))))
+        ensures { λ r. ⌜ (r ≡ steppedOf (onFrame head bytes length (seen self (now (journal .entry)))))
             × (now (journal .exit) ≡ onFrame head bytes length (seen self (now (journal .entry))) .state .journal) ⌝ }
     {
         if head.remote {
-            return self.quiet();
+            return self.stay(0);
         }
         let identifier = head.identifier;
         if identifier == 0 {
@@ -61,37 +48,73 @@ impl Device {
         if identifier == 0x680 + node {
             return self.serve(journal, Channel::Two, bytes, length);
         }
-        self.quiet()
+        self.stay(0)
     }
 
-    // An event of a record and a journal that are not refused.
-    fn happen(self, journal: &mut [u8], event: Event, bytes: [u8; 8], length: u8) -> Stepped
-        requires { ⌜ (Ranged self) × (lengthOf (now journal) ≡ 512 * self .saves .blocks) ⌝ }
-        ensures { λ r. ⌜ (r ≡ steppedOf (onEvent event bytes length (seen self (now (journal .entry)))))
-            × (now (journal .exit) ≡ onEvent event bytes length (seen self (now (journal .entry))) .state .journal) ⌝ }
+    // The number of the refusal that the record or the length of its journal brings; 0 where it is none.
+    fn refusal(self, length: usize) -> u8
+        ensures { λ r. ⌜ r ≡ refusalOf length (alone self) ⌝ }
     {
-        match event {
-            Event::Received(head) => {
-                if (head.identifier <= MOST_IDENTIFIER) & (length <= MOST_LENGTH) {
-                    return self.receive(journal, head, bytes, length).accepted();
-                }
-                self.refuse(WRONG_FRAME)
-            }
-            Event::Tick(ms) => self.tick(ms).accepted(),
-            Event::Measured(axis, m) => self.measure(axis, m).accepted(),
+        if !self.in_range() {
+            return RECORD_OUT_OF_RANGE;
         }
+        if length != 512 * (self.saves.blocks as usize) {
+            return WRONG_LENGTH;
+        }
+        0
     }
 
     // The record goes in by value and comes back, with the frames; the lent journal is written by a save or a load alone.
+    // What comes of an event is stored in the record itself: the compiled code then copies the record once.
     pub fn event(mut self, journal: &mut [u8], event: Event, bytes: [u8; 8], length: u8) -> Stepped
         ensures { λ r. ⌜ Answered self (now (journal .entry)) event bytes length r (now (journal .exit)) ⌝ }
     {
-        if !self.in_range() {
-            return self.refuse(RECORD_OUT_OF_RANGE);
+        match event {
+            Event::Received(head) => {
+                let refusal = self.refusal(journal.len());
+                if refusal != 0 {
+                    return self.stay(refusal);
+                }
+                if (head.identifier <= MOST_IDENTIFIER) & (length <= MOST_LENGTH) {
+                    let next = self.receive(journal, head, bytes, length);
+                    let device = next.device;
+                    let answer = next.answer;
+                    self = device;
+                    return Stepped {
+                        device: self,
+                        answer,
+                    };
+                }
+                self.stay(WRONG_FRAME)
+            }
+            Event::Tick(ms) => {
+                let refusal = self.refusal(journal.len());
+                if refusal != 0 {
+                    return self.stay(refusal);
+                }
+                let next = self.tick(ms);
+                let device = next.device;
+                let answer = next.answer;
+                self = device;
+                Stepped {
+                    device: self,
+                    answer,
+                }
+            }
+            Event::Measured(axis, m) => {
+                let refusal = self.refusal(journal.len());
+                if refusal != 0 {
+                    return self.stay(refusal);
+                }
+                let next = self.measure(axis, m);
+                let device = next.device;
+                let answer = next.answer;
+                self = device;
+                Stepped {
+                    device: self,
+                    answer,
+                }
+            }
         }
-        if journal.len() != 512 * (self.saves.blocks as usize) {
-            return self.refuse(WRONG_LENGTH);
-        }
-        self.happen(journal, event, bytes, length)
     }
 }

@@ -16,7 +16,7 @@ use rules::parts::Saves;
 use rules::settings::Settings;
 ghost use mathlib.Core.Path.{_≡_};
 ghost use mathlib.Core.List.{[], _∷_};
-ghost use Rattle.device.specs.Answers.{answered, sentOf};
+ghost use Rattle.device.specs.Answers.{answering};
 
 // The device record: plain numbers, so that any record can be given, and refused.
 #[repr(C)]
@@ -35,14 +35,7 @@ pub struct Device {
     pub y: Reading,
 }
 
-// The frames of one answer, in their order; the places past the count are all zero.
-pub struct Sent {
-    pub count: u8,
-    pub first: Frame,
-    pub second: Frame,
-}
-
-// The number of the refusal, 0 where there is none, and the frames.
+// The number of the refusal, 0 where there is none, and the frames in their order; the places past the count are all zero.
 #[repr(C)]
 pub struct Answer {
     pub refusal: u8,
@@ -58,30 +51,13 @@ pub struct Stepped {
     pub answer: Answer,
 }
 
-// The new device record and the frames of what is not refused.
-pub struct Moved {
-    pub device: Device,
-    pub sent: Sent,
-}
-
-impl Sent {
-    pub fn answer(self, refusal: u8) -> Answer
-        ensures { λ r. ⌜ r ≡ answered refusal self ⌝ }
+impl Answer {
+    // No frame is sent.
+    pub fn silent(refusal: u8) -> Self
+        ensures { λ r. ⌜ r ≡ answering refusal [] ⌝ }
     {
-        let first = self.first;
-        let second = self.second;
         Answer {
             refusal,
-            count: self.count,
-            first,
-            second,
-        }
-    }
-
-    pub fn none() -> Self
-        ensures { λ r. ⌜ r ≡ sentOf [] ⌝ }
-    {
-        Sent {
             count: 0,
             first: frames::none(),
             second: frames::none(),
@@ -89,9 +65,10 @@ impl Sent {
     }
 
     pub fn one(first: Frame) -> Self
-        ensures { λ r. ⌜ r ≡ sentOf (first ∷ []) ⌝ }
+        ensures { λ r. ⌜ r ≡ answering 0 (first ∷ []) ⌝ }
     {
-        Sent {
+        Answer {
+            refusal: 0,
             count: 1,
             first,
             second: frames::none(),
@@ -99,25 +76,13 @@ impl Sent {
     }
 
     pub fn two(first: Frame, second: Frame) -> Self
-        ensures { λ r. ⌜ r ≡ sentOf (first ∷ second ∷ []) ⌝ }
+        ensures { λ r. ⌜ r ≡ answering 0 (first ∷ second ∷ []) ⌝ }
     {
-        Sent {
+        Answer {
+            refusal: 0,
             count: 2,
             first,
             second,
-        }
-    }
-}
-
-impl Moved {
-    pub fn accepted(self) -> Stepped
-        ensures { λ r. ⌜ r ≡ record { device = self .device; answer = answered 0 (self .sent) } ⌝ }
-    {
-        let device = self.device;
-        let sent = self.sent;
-        Stepped {
-            device,
-            answer: sent.answer(0),
         }
     }
 }

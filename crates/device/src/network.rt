@@ -1,7 +1,7 @@
 // NMT commands and resets.
+use crate::Answer;
 use crate::Device;
-use crate::Moved;
-use crate::Sent;
+use crate::Stepped;
 use rules::errors::ErrorList;
 use rules::parts::Identity;
 use rules::parts::PdoCounts;
@@ -15,9 +15,9 @@ ghost use lib.Dec.{eqb};
 ghost use Rattle.rules.specs.Errors.{noErrors, entered};
 ghost use Rattle.rules.specs.Frames.{bootUp};
 ghost use Rattle.rules.specs.Network.{noReading, start, communicating, onCommand, onNetwork};
-ghost use Rattle.rules.specs.Results.{accepted};
+ghost use Rattle.rules.specs.Results.{accepted, refused};
 ghost use Rattle.rules.specs.State.{noCounts, withNetwork};
-ghost use Rattle.device.specs.Answers.{sentOf, movedOf};
+ghost use Rattle.device.specs.Answers.{answering, steppedOf};
 ghost use Rattle.device.specs.Seen.{alone};
 
 const SPOILED: u16 = 0xFF00;
@@ -52,21 +52,21 @@ fn first_errors(spoiled: u8) -> ErrorList
 
 impl Device {
     // Boot-up, and behind it the emergency of a spoiled journal.
-    fn booted(self) -> Sent
-        ensures { λ r. ⌜ r ≡ sentOf (start (self .node) (self .identity) (self .saves) [] .sent) ⌝ }
+    fn booted(self) -> Answer
+        ensures { λ r. ⌜ r ≡ answering 0 (start (self .node) (self .identity) (self .saves) [] .sent) ⌝ }
     {
         let first = frames::boot_up(self.node);
         let spoiled = self.saves.spoiled;
         if spoiled == 0 {
-            return Sent::one(first);
+            return Answer::one(first);
         }
         let register = frames::register(spoiled, states::NONE, states::NONE);
-        Sent::two(first, frames::emergency(self.node, SPOILED, register))
+        Answer::two(first, frames::emergency(self.node, SPOILED, register))
     }
 
     // The device as power-on and 81h leave it.
-    pub fn start(node: u8, identity: Identity, saves: Saves) -> Moved
-        ensures { λ r. ⌜ r ≡ movedOf (start node identity saves []) ⌝ }
+    pub fn start(node: u8, identity: Identity, saves: Saves) -> Stepped
+        ensures { λ r. ⌜ r ≡ steppedOf (start node identity saves []) ⌝ }
     {
         let running = saves.stored;
         let device = Device {
@@ -83,13 +83,13 @@ impl Device {
             x: no_reading(),
             y: no_reading(),
         };
-        let sent = device.booted();
-        Moved { device, sent }
+        let answer = device.booted();
+        Stepped { device, answer }
     }
 
     // 82h: 1017 and 1800 from the stored settings.
-    fn communicate(mut self) -> Moved
-        ensures { λ r. ⌜ r ≡ movedOf (accepted (communicating (alone self)) (bootUp (self .node) ∷ [])) ⌝ }
+    fn communicate(mut self) -> Stepped
+        ensures { λ r. ⌜ r ≡ steppedOf (accepted (communicating (alone self)) (bootUp (self .node) ∷ [])) ⌝ }
     {
         let pdo = self.saves.stored.pdo;
         let mut running = self.running;
@@ -101,32 +101,36 @@ impl Device {
         self.pdo = no_counts();
         self.one = states::ABSENT;
         self.two = states::ABSENT;
-        let sent = Sent::one(frames::boot_up(self.node));
-        Moved { device: self, sent }
+        let answer = Answer::one(frames::boot_up(self.node));
+        Stepped {
+            device: self,
+            answer,
+        }
     }
 
-    fn enter(mut self, network: u8, counts: PdoCounts) -> Moved
-        ensures { λ r. ⌜ r ≡ movedOf (accepted (withNetwork network counts (alone self)) []) ⌝ }
+    fn enter(mut self, network: u8, counts: PdoCounts) -> Stepped
+        ensures { λ r. ⌜ r ≡ steppedOf (accepted (withNetwork network counts (alone self)) []) ⌝ }
     {
         self.network = network;
         self.pdo = counts;
-        Moved {
+        Stepped {
             device: self,
-            sent: Sent::none(),
+            answer: Answer::silent(0),
         }
     }
 
-    pub fn quiet(self) -> Moved
-        ensures { λ r. ⌜ r ≡ movedOf (accepted (alone self) []) ⌝ }
+    // Nothing is sent, and the record stays.
+    pub fn stay(self, refusal: u8) -> Stepped
+        ensures { λ r. ⌜ r ≡ steppedOf (refused refusal (alone self)) ⌝ }
     {
-        Moved {
+        Stepped {
             device: self,
-            sent: Sent::none(),
+            answer: Answer::silent(refusal),
         }
     }
 
-    fn command(self, command: u8) -> Moved
-        ensures { λ r. ⌜ r ≡ movedOf (onCommand command (alone self)) ⌝ }
+    fn command(self, command: u8) -> Stepped
+        ensures { λ r. ⌜ r ≡ steppedOf (onCommand command (alone self)) ⌝ }
     {
         match command {
             0x01 => self.enter(states::OPERATIONAL, no_counts()),
@@ -134,17 +138,17 @@ impl Device {
             0x80 => self.enter(states::PRE_OPERATIONAL, self.pdo),
             0x81 => Device::start(self.node, self.identity, self.saves),
             0x82 => self.communicate(),
-            _ => self.quiet(),
+            _ => self.stay(0),
         }
     }
 
-    pub fn on_network(self, bytes: [u8; 8], length: u8) -> Moved
-        ensures { λ r. ⌜ r ≡ movedOf (onNetwork bytes length (alone self)) ⌝ }
+    pub fn on_network(self, bytes: [u8; 8], length: u8) -> Stepped
+        ensures { λ r. ⌜ r ≡ steppedOf (onNetwork bytes length (alone self)) ⌝ }
     {
         let node = bytes[1];
         if (length == 2) & ((node == 0) | (node == self.node)) {
             return self.command(bytes[0]);
         }
-        self.quiet()
+        self.stay(0)
     }
 }

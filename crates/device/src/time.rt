@@ -1,14 +1,14 @@
 // Ticks and SYNCs.
+use crate::Answer;
 use crate::Device;
-use crate::Moved;
-use crate::Sent;
+use crate::Stepped;
 use rules::events::Frame;
 use rules::parts::PdoCounts;
 ghost use mathlib.Core.Path.{_≡_};
 ghost use mathlib.Core.List.{_++_};
 ghost use Rattle.rules.specs.Frames.{heartbeat};
 ghost use Rattle.rules.specs.Time.{when, pdoOf, onTick, onSync};
-ghost use Rattle.device.specs.Answers.{sentOf, movedOf};
+ghost use Rattle.device.specs.Answers.{answering, steppedOf};
 ghost use Rattle.device.specs.Seen.{alone, Ranged};
 
 impl Device {
@@ -20,33 +20,33 @@ impl Device {
     }
 
     // The heartbeat where it is due, and then the PDO where it is.
-    fn timed(self, beats: bool, sends: bool) -> Sent
+    fn timed(self, beats: bool, sends: bool) -> Answer
         requires { ⌜ Ranged self ⌝ }
-        ensures { λ r. ⌜ r ≡ sentOf (when beats (heartbeat (self .node) (self .network)) ++ when sends (pdoOf (alone self))) ⌝ }
+        ensures { λ r. ⌜ r ≡ answering 0 (when beats (heartbeat (self .node) (self .network)) ++ when sends (pdoOf (alone self))) ⌝ }
     {
         if beats {
             let first = frames::heartbeat(self.node, self.network);
             if sends {
-                return Sent::two(first, self.pdo_frame());
+                return Answer::two(first, self.pdo_frame());
             }
-            return Sent::one(first);
+            return Answer::one(first);
         }
         if sends {
-            return Sent::one(self.pdo_frame());
+            return Answer::one(self.pdo_frame());
         }
-        Sent::none()
+        Answer::silent(0)
     }
 
-    pub fn tick(mut self, ms: u16) -> Moved
+    pub fn tick(mut self, ms: u16) -> Stepped
         requires { ⌜ Ranged self ⌝ }
-        ensures { λ r. ⌜ r ≡ movedOf (onTick ms (alone self)) ⌝ }
+        ensures { λ r. ⌜ r ≡ steppedOf (onTick ms (alone self)) ⌝ }
     {
         let period = self.running.heartbeat;
         let timer = self.running.pdo.timer;
         let runs = timers::timer_runs(self.network, self.running.pdo);
         let beats = timers::reaches(true, period, self.heartbeat, ms);
         let sends = timers::reaches(runs, timer, self.pdo.elapsed, ms);
-        let sent = self.timed(beats, sends);
+        let answer = self.timed(beats, sends);
         let elapsed = timers::elapsed_after(runs, timer, self.pdo.elapsed, ms);
         self.heartbeat = timers::elapsed_after(true, period, self.heartbeat, ms);
         let counts = PdoCounts {
@@ -54,37 +54,40 @@ impl Device {
             syncs: self.pdo.syncs,
         };
         self.pdo = counts;
-        Moved { device: self, sent }
+        Stepped {
+            device: self,
+            answer,
+        }
     }
 
     // The PDO where the SYNC was the last of its type.
-    fn synchronized(self, sends: bool) -> Sent
+    fn synchronized(self, sends: bool) -> Answer
         requires { ⌜ Ranged self ⌝ }
-        ensures { λ r. ⌜ r ≡ sentOf (when sends (pdoOf (alone self))) ⌝ }
+        ensures { λ r. ⌜ r ≡ answering 0 (when sends (pdoOf (alone self))) ⌝ }
     {
         if sends {
-            return Sent::one(self.pdo_frame());
+            return Answer::one(self.pdo_frame());
         }
-        Sent::none()
+        Answer::silent(0)
     }
 
-    pub fn sync(mut self) -> Moved
+    pub fn sync(mut self) -> Stepped
         requires { ⌜ Ranged self ⌝ }
-        ensures { λ r. ⌜ r ≡ movedOf (onSync (alone self)) ⌝ }
+        ensures { λ r. ⌜ r ≡ steppedOf (onSync (alone self)) ⌝ }
     {
         if timers::sync_counts(self.network, self.running.pdo) {
             let transmission = self.running.pdo.transmission;
-            let sent = self.synchronized(timers::sync_due(transmission, self.pdo.syncs));
+            let answer = self.synchronized(timers::sync_due(transmission, self.pdo.syncs));
             let counts = PdoCounts {
                 elapsed: self.pdo.elapsed,
                 syncs: timers::syncs_after(transmission, self.pdo.syncs),
             };
             self.pdo = counts;
-            return Moved { device: self, sent };
+            return Stepped {
+                device: self,
+                answer,
+            };
         }
-        Moved {
-            device: self,
-            sent: Sent::none(),
-        }
+        self.stay(0)
     }
 }

@@ -10,7 +10,7 @@ alarmed-spec =
     (tie.spec
     (λ c κs. search needs)
     (λ c κs. search needs)
-    (λ c. simp (c .none .ensures, eq-eqb _ _ (c .before .if1 .taken)))
+    (λ c. simp (c .silent .ensures, eq-eqb _ _ (c .before .if1 .taken)))
     (λ c κs. search needs)
     (λ c κs. search needs)
     (λ c. simp (c .one .ensures, c .before .emergency .ensures, c .before .before .if2 .taken, ne-eqb _ _ (c .before .before .before .if1 .left), c .before .before .before .before .before .register .ensures))
@@ -18,4 +18,4 @@ alarmed-spec =
     (λ c κs. search needs)
     (λ c. simp (c .one2 .ensures, c .before .emergency2 .ensures, simp (c .before .before .before .before .before .before .register .ensures) at (c .before .before .if3 .taken), c .before .before .before .if2 .left, ne-eqb _ _ (c .before .before .before .before .if1 .left), c .before .before .before .before .before .before .register .ensures))
     (λ c κs. search needs)
-    (λ c. simp (c .none2 .ensures, simp (c .before .before .before .before .before .register .ensures) at (c .before .if3 .left), c .before .before .if2 .left, ne-eqb _ _ (c .before .before .before .if1 .left))))
+    (λ c. simp (c .silent2 .ensures, simp (c .before .before .before .before .before .register .ensures) at (c .before .if3 .left), c .before .before .if2 .left, ne-eqb _ _ (c .before .before .before .if1 .left))))

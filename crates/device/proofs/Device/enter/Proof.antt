@@ -8,4 +8,4 @@ enter-spec =
     tie.close
     (tie.spec
     (λ c κs. search needs)
-    (λ c. simp (c .none .ensures)))
+    (λ c. simp (c .silent .ensures)))

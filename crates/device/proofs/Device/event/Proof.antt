@@ -1,34 +1,112 @@
--- `Device::event` meets its contract: the refusals in their order, and else the event.
-use mathlib.Core.Path.{_≡_, refl, sym, _∙_}
+-- `Device::event` meets its contract: refused with a number, or each arm's event.
+use mathlib.Core.Path.{_≡_, refl, sym, subst⁻¹, _∙_}
 use mathlib.Core.Bool.{true, false}
+use mathlib.Core.List.{List}
+use Prim.Native.Nat.{ℕ}
 use borrow.Author.Needs.{needs}
-use borrow.Author.Tests.{eq-eqb, ne-eqb, not-true, not-false}
-use Rattle.rules.specs.Events.{event}
-use Rattle.rules.specs.Ranges.{inRange}
-use Rattle.device.proofs.Beside.{range-beside}
-use Rattle.device.specs.Seen.{seen}
+use lib.IntN.{ℤ}
+use mir.Syntax.{w32}
+use Rattle.laws.proofs.Signed.{ok}
+use Rattle.rules.specs.declared.events.Event.{Event}
+use Rattle.rules.specs.declared.events.Event.the-variants.{Received, Tick, Measured}
+use Rattle.rules.specs.declared.events.FrameHead.{FrameHead}
+use Rattle.rules.specs.declared.objects.Axis.{Axis}
+use Rattle.rules.specs.Events.{frameOk, onFrame, onEvent}
+use Rattle.rules.specs.Readings.{onReading}
+use Rattle.rules.specs.Results.{Result, refused}
+use Rattle.rules.specs.State.{State}
+use Rattle.rules.specs.Time.{onTick}
+use Rattle.device.proofs.Beside.{tick-beside, reading-beside}
+use Rattle.device.proofs.Refused.{refused-with, not-refused, looked-at}
+use Rattle.device.specs.declared.Stepped.{Stepped}
+use Rattle.device.specs.Answers.{steppedOf}
 use Rattle.device.proofs.Device.event.Statement.{statement}
 use Rattle.device.proofs.Device.event.Tie as tie
 
--- the record out of its ranges, and in them
-out : (c : tie.Then1) → let start = c .before .before .before in inRange (seen (start .args .self) (start .args .journal .now)) ≡ false
-out c = range-beside _ _ ∙ sym (c .before .in-range .ensures) ∙ not-true _ (c .if1 .taken)
+-- each arm's event: a frame that is one, and one that is not; a tick; a reading
+module _ (e : Event) (bytes : List ℕ) (length : ℕ) (u : State) where
+  is-frame : (f : FrameHead) → e ≡ Received f → frameOk f length ≡ true → onEvent e bytes length u ≡ onFrame f bytes length u
+  is-frame f p t = rw p (rw t)
 
-within : (c : tie.Else1) → let start = c .before .before .before in inRange (seen (start .args .self) (start .args .journal .now)) ≡ true
-within c = range-beside _ _ ∙ sym (c .before .in-range .ensures) ∙ not-false _ (c .if1 .left)
+  no-frame : (f : FrameHead) → e ≡ Received f → frameOk f length ≡ false → onEvent e bytes length u ≡ refused 2 u
+  no-frame f p t = rw p (rw t)
+
+  is-tick : (ms : ℕ) → e ≡ Tick ms → onEvent e bytes length u ≡ onTick ms u
+  is-tick ms p = rw p
+
+  is-reading : (a : Axis) (m : ℤ) → e ≡ Measured a m → onEvent e bytes length u ≡ onReading a m u
+  is-reading a m p = rw p
+
+-- a step and a journal that are those of one result are those of an equal one
+like : {r s : Result} (t : Stepped) (j : List ℕ) → s ≡ r → (t ≡ steppedOf r) × (j ≡ r .state .journal) → (t ≡ steppedOf s) × (j ≡ s .state .journal)
+like t j e p = subst⁻¹ (λ (r : Result). (t ≡ steppedOf r) × (j ≡ r .state .journal)) e p
 
 pub event-spec : {M : Type 1} → statement M
-unfolding event
 event-spec =
     tie.close
     (tie.spec
-    (λ c κs. search needs)
-    (λ c κs. search needs)
-    (λ c. simp (out (c .before)) (c .refuse .ensures, refl))
-    (λ c. search needs)
     (λ c. search needs)
     (λ c κs. search needs)
-    (λ c. simp (within (c .before .before .before), ne-eqb _ _ (c .before .if2 .taken)) (c .refuse2 .ensures, refl))
-    (λ c κs. (sym (c .before .before .before .before .in-range .ensures) ∙ not-false _ (c .before .before .before .if1 .left), c .before .if2 .left))
+    (λ c κs. search needs)
+    (λ c.
+    let start = c .before .before .before .before .before .before .before in
+    let d = start .args .self in
+    let j = start .args .journal .now in
+    like _ _ (refused-with d j _ (c .before .before .refusal .ensures) (c .before .if1 .taken) (start .args .event) (start .args .bytes) (start .args .length)) (c .stay .ensures, refl))
+    (λ c κs.
+    let start = c .before .before .before .before .before .before .before .before .before in
+    let d = start .args .self in
+    let j = start .args .journal .now in
+    not-refused d j _ (c .before .before .before .before .refusal .ensures) (c .before .before .before .if1 .left))
     (λ c. search needs)
-    (λ c. simp (within (c .before .before .before .before .before .before), eq-eqb _ _ (c .before .before .before .before .if2 .left)) (c .before .before .happen .ensures)))
+    (λ c.
+    let start = c .before .before .before .before .before .before .before .before .before .before .before .before .before .before in
+    let d = start .args .self in
+    let j = start .args .journal .now in
+    let given = c .before .before .before .before .before .before .before .before .before .before .before .event .given in
+    let received = c .before .before .before .before .receive in
+    like _ _ (looked-at d j _ (c .before .before .before .before .before .before .before .before .before .refusal .ensures) (c .before .before .before .before .before .before .before .before .if1 .left) (start .args .event) (start .args .bytes) (start .args .length) ∙ is-frame (start .args .event) (start .args .bytes) (start .args .length) _ (given .0 .0) (given .1) (c .before .before .before .before .before .before .if2 .taken)) (received .ensures))
+    (λ c κs. search needs)
+    (λ c. search needs)
+    (λ c κs. search needs)
+    (λ c κs. search needs)
+    (λ c.
+    let start = c .before .before .before .before .before .before .before in
+    let d = start .args .self in
+    let j = start .args .journal .now in
+    like _ _ (refused-with d j _ (c .before .before .refusal2 .ensures) (c .before .if3 .taken) (start .args .event) (start .args .bytes) (start .args .length)) (c .stay3 .ensures, refl))
+    (λ c κs.
+    let start = c .before .before .before .before .before .before in
+    let d = start .args .self in
+    let j = start .args .journal .now in
+    not-refused d j _ (c .before .refusal2 .ensures) (c .if3 .left) .0)
+    (λ c. search needs)
+    (λ c κs. search needs)
+    (λ c κs. search needs)
+    (λ c.
+    let start = c .before .before .before .before .before .before .before in
+    let d = start .args .self in
+    let j = start .args .journal .now in
+    like _ _ (refused-with d j _ (c .before .before .refusal3 .ensures) (c .before .if4 .taken) (start .args .event) (start .args .bytes) (start .args .length)) (c .stay4 .ensures, refl))
+    (λ c κs. search needs)
+    (λ c.
+    let start = c .before .before .before .before .before .before .before .before .before in
+    let d = start .args .self in
+    let j = start .args .journal .now in
+    let given = c .before .before .before .before .before .before .event .given in
+    like _ _ (looked-at d j _ (c .before .before .before .before .refusal .ensures) (c .before .before .before .if1 .left) (start .args .event) (start .args .bytes) (start .args .length) ∙ no-frame (start .args .event) (start .args .bytes) (start .args .length) _ (given .0 .0) (given .1) (c .before .if2 .left)) (c .stay2 .ensures, refl))
+    (λ c.
+    let start = c .before .before .before .before .before .before .before .before .before in
+    let d = start .args .self in
+    let j = start .args .journal .now in
+    let given = c .before .before .before .before .before .before .event2 .given in
+    let b = tick-beside d j (given .0 .0) in
+    like _ _ (looked-at d j _ (c .before .before .before .before .refusal2 .ensures) (c .before .before .before .if3 .left) (start .args .event) (start .args .bytes) (start .args .length) ∙ is-tick (start .args .event) (start .args .bytes) (start .args .length) _ (given .0 .0) (given .1)) (c .before .before .tick .ensures ∙ sym (b .same), sym (b .kept)))
+    (λ c.
+    let start = c .before .before .before .before .before .before .before .before .before in
+    let d = start .args .self in
+    let j = start .args .journal .now in
+    let given = c .before .before .before .before .before .before .event3 .given in
+    let b = reading-beside d j (given .0 .0) (given .0 .1 .0) in
+    let moved = simp (ok w32 (given .0 .1 .0) (c .before .before .before .before .before .known-told3 .given .1 .0 .1)) at (c .before .before .measure .ensures) in
+    like _ _ (looked-at d j _ (c .before .before .before .before .refusal3 .ensures) (c .before .before .before .if4 .left) (start .args .event) (start .args .bytes) (start .args .length) ∙ is-reading (start .args .event) (start .args .bytes) (start .args .length) _ (given .0 .0) (given .0 .1 .0) (given .1)) (moved ∙ sym (b .same), sym (b .kept))))

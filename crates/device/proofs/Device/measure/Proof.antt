@@ -16,15 +16,15 @@ use Rattle.rules.specs.Frames.{emergency}
 use Rattle.rules.specs.Readings.{onReading, measured, faultCode, fails, registerOf, ifNotStopped}
 use Rattle.rules.specs.State.{reading, withReading}
 use Rattle.device.specs.declared.Device.{Device}
-use Rattle.device.specs.declared.Moved.{Moved}
-use Rattle.device.specs.declared.Sent.{Sent}
-use Rattle.device.specs.Answers.{sentOf, movedOf}
+use Rattle.device.specs.declared.Stepped.{Stepped}
+use Rattle.device.specs.declared.Answer.{Answer}
+use Rattle.device.specs.Answers.{answering, steppedOf}
 use Rattle.device.specs.Seen.{alone, held}
 use Rattle.device.proofs.Device.measure.Statement.{statement}
 use Rattle.device.proofs.Device.measure.Tie as tie
 
 -- by the axis: the parts of the answer, put together
-together : (d : Device) (a : Axis) (m : ℤ) (old x : Reading) (before code : ℕ) (fault : Bool) (list : ErrorList) (next : Device) (sent : Sent)
+together : (d : Device) (a : Axis) (m : ℤ) (old x : Reading) (before code : ℕ) (fault : Bool) (list : ErrorList) (next : Device) (sent : Answer)
     → old ≡ reading a (alone d)
     → before ≡ registerOf (alone d)
     → fault ≡ fails m old
@@ -32,10 +32,10 @@ together : (d : Device) (a : Axis) (m : ℤ) (old x : Reading) (before code : �
     → list ≡ listedOf fault code (d .errors)
     → x ≡ measured m old
     → next ≡ held (withReading a x list (alone d))
-    → sent ≡ sentOf (ifNotStopped (next .network)
+    → sent ≡ answering 0 (ifNotStopped (next .network)
     (cond fault (emergency (next .node) code (registerOf (alone next)) ∷ [])
     (cond (not (eqb before 0) && eqb (registerOf (alone next)) 0) (emergency (next .node) 0 (registerOf (alone next)) ∷ []) [])))
-    → _≡_ {A = Moved} (record { device = next; sent = sent }) (movedOf (onReading a m (alone d)))
+    → _≡_ {A = Stepped} (record { device = next; answer = sent }) (steppedOf (onReading a m (alone d)))
 unfolding onReading
 together d X m old x before code fault list next sent e₁ e₂ e₃ e₄ e₅ e₆ e₇ e₈ = rw (e₈, e₇, e₆, e₅, e₄, e₃, e₂, e₁)
 together d Y m old x before code fault list next sent e₁ e₂ e₃ e₄ e₅ e₆ e₇ e₈ = rw (e₈, e₇, e₆, e₅, e₄, e₃, e₂, e₁)

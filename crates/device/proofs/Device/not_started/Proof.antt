@@ -9,5 +9,4 @@ not-started-spec =
     (tie.spec
     (λ c κs. search needs)
     (λ c κs. search needs)
-    (λ c κs. search needs)
-    (λ c. simp (c .answer .ensures, c .before .none .ensures, c .before .before .zero-record .ensures)))
+    (λ c. simp (c .silent .ensures, c .before .zero-record .ensures)))

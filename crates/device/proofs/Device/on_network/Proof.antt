@@ -14,4 +14,4 @@ on-network-spec =
     (λ c κs. search needs)
     (λ c. simp (c .command .ensures, c .before .if1 .taken))
     (λ c κs. search needs)
-    (λ c. simp (c .quiet .ensures, c .before .if1 .left)))
+    (λ c. simp (c .stay .ensures, c .before .if1 .left)))

@@ -23,5 +23,4 @@ power-on-spec =
     (λ c. record { fits = omega (arith, to-most 1 47 (c .before .before .before .before .before .args .node) (sym (c .before .before .before .node-ok .ensures) ∙ not-false _ (c .before .before .if1 .left))) })
     (λ c κs. sym (c .before .length-ok .ensures) ∙ not-false _ (c .if2 .left))
     (λ c κs. search needs)
-    (λ c κs. search needs)
-    (λ c. simp (c .accepted .ensures, c .before .start .ensures, c .before .before .saves-in .ensures, sym (c .before .before .before .before .length-ok .ensures) ∙ not-false _ (c .before .before .before .if2 .left), sym (c .before .before .before .before .before .before .node-ok .ensures) ∙ not-false _ (c .before .before .before .before .before .if1 .left))))
+    (λ c. simp (c .start .ensures, c .before .saves-in .ensures, sym (c .before .before .before .length-ok .ensures) ∙ not-false _ (c .before .before .if2 .left), sym (c .before .before .before .before .before .node-ok .ensures) ∙ not-false _ (c .before .before .before .before .if1 .left))))

@@ -13,7 +13,7 @@ receive-spec =
     tie.close
     (tie.spec
     (λ c κs. search needs)
-    (λ c. simp (c .before .if1 .taken) (c .quiet .ensures, refl))
+    (λ c. simp (c .before .if1 .taken) (c .stay .ensures, refl))
     (λ c κs. search needs)
     (λ c.
     let start = c .before .before .before .before in
@@ -40,4 +40,4 @@ receive-spec =
     (λ c κs. search needs)
     (λ c.
     let at = c .before in
-    simp (at .before .before .before .before .before .if1 .left, ne-eqb _ _ (at .before .before .before .before .if2 .left), at .before .before .before .if3 .left, ne-eqb _ _ (at .before .if4 .left), ne-eqb _ _ (at .if5 .left)) (c .quiet2 .ensures, refl)))
+    simp (at .before .before .before .before .before .if1 .left, ne-eqb _ _ (at .before .before .before .before .if2 .left), at .before .before .before .if3 .left, ne-eqb _ _ (at .before .if4 .left), ne-eqb _ _ (at .if5 .left)) (c .stay2 .ensures, refl)))

@@ -16,4 +16,4 @@ sync-spec =
     (λ c κs. search needs)
     (λ c. simp (c .syncs-after .ensures, c .before .synchronized .ensures, c .before .before .sync-due .ensures, sym (c .before .before .before .before .sync-counts .ensures) ∙ c .before .before .before .if1 .taken))
     (λ c κs. search needs)
-    (λ c. simp (c .none .ensures, sym (c .before .before .sync-counts .ensures) ∙ c .before .if1 .left)))
+    (λ c. simp (c .stay .ensures, sym (c .before .before .sync-counts .ensures) ∙ c .before .if1 .left)))

@@ -11,4 +11,4 @@ synchronized-spec =
     (λ c κs. search needs)
     (λ c. simp (c .one .ensures, c .before .pdo-frame .ensures, c .before .before .if1 .taken))
     (λ c κs. search needs)
-    (λ c. simp (c .none .ensures, c .before .if1 .left)))
+    (λ c. simp (c .silent .ensures, c .before .if1 .left)))

@@ -17,4 +17,4 @@ timed-spec =
     (λ c κs. search needs)
     (λ c. simp (c .one2 .ensures, c .before .pdo-frame2 .ensures, c .before .before .if3 .taken, c .before .before .before .if1 .left))
     (λ c κs. search needs)
-    (λ c. simp (c .none .ensures, c .before .if3 .left, c .before .before .if1 .left)))
+    (λ c. simp (c .silent .ensures, c .before .if3 .left, c .before .before .if1 .left)))

@@ -1,0 +1,44 @@
+-- What the number of the refusal says of an event: refused with it, or looked at.
+use mathlib.Core.Path.{_≡_, refl}
+use mathlib.Core.Bool.{Bool, true, false, cond}
+use mathlib.Core.List.{List}
+use borrow.Author.Tests.{eqb-true}
+use native.Mathlib.Omega.{arith}
+use Prim.Native.Nat.{ℕ, _*_}
+use lib.Dec.{eqb}
+use lib.ListN.{length as lengthOf}
+use Rattle.rules.specs.declared.events.Event.{Event}
+use Rattle.rules.specs.Events.{onEvent, event}
+use Rattle.rules.specs.Ranges.{inRange}
+use Rattle.rules.specs.Results.{Result, refused}
+use Rattle.rules.specs.State.{State}
+use Rattle.device.proofs.Beside.{range-beside}
+use Rattle.device.specs.declared.Device.{Device}
+use Rattle.device.specs.Seen.{seen, alone, Ranged, refusalOf}
+
+-- by the two tests
+by-number : (ranged fits : Bool) (n : ℕ) (r : Result) (u : State) → n ≡ cond ranged (cond fits 0 1) 3 → (n ≡ 0 → ⊥)
+    → cond ranged (cond fits r (refused 1 u)) (refused 3 u) ≡ refused n u
+by-number true true n r u p q = absurd (q p)
+by-number true false n r u p q = rw p
+by-number false fits n r u p q = rw p
+
+by-none : (ranged fits : Bool) (n : ℕ) → n ≡ cond ranged (cond fits 0 1) 3 → n ≡ 0 → (ranged ≡ true) × (fits ≡ true)
+by-none true true n p q = (refl, refl)
+by-none true false n p q = absurd (omega (arith, p, q))
+by-none false fits n p q = absurd (omega (arith, p, q))
+
+module _ (d : Device) (j : List ℕ) (n : ℕ) (p : n ≡ refusalOf (lengthOf j) (alone d)) where
+  pub refused-with : (n ≡ 0 → ⊥) → (e : Event) (bytes : List ℕ) (length : ℕ) → event e bytes length (seen d j) ≡ refused n (seen d j)
+  unfolding event
+  refused-with q e bytes length = rw (range-beside d j) (by-number (inRange (alone d)) (eqb (lengthOf j) (512 * d .saves .blocks)) n (onEvent e bytes length (seen d j)) (seen d j) p q)
+
+  passed : n ≡ 0 → (inRange (alone d) ≡ true) × (eqb (lengthOf j) (512 * d .saves .blocks) ≡ true)
+  passed q = by-none (inRange (alone d)) (eqb (lengthOf j) (512 * d .saves .blocks)) n p q
+
+  pub not-refused : n ≡ 0 → Ranged d × (lengthOf j ≡ 512 * d .saves .blocks)
+  not-refused q = let t = passed q in (t .0, eqb-true (lengthOf j) (512 * d .saves .blocks) (t .1))
+
+  pub looked-at : n ≡ 0 → (e : Event) (bytes : List ℕ) (length : ℕ) → event e bytes length (seen d j) ≡ onEvent e bytes length (seen d j)
+  unfolding event
+  looked-at q e bytes length = let t = passed q in rw (range-beside d j, t .0, t .1)
