@@ -3,7 +3,7 @@ use device::Answer;
 use device::Device;
 use libc::STDIN_FILENO;
 use libc::STDOUT_FILENO;
-use lines::Line;
+use plain_lines::Line;
 use rules::parts::Identity;
 use texts::Text;
 
@@ -29,19 +29,19 @@ fn print_answer(answer: Answer) {
     let first = answer.first;
     let second = answer.second;
     if answer.refusal != 0 {
-        print(texts::printing::refusal_text(answer.refusal));
+        print(printing::refusal_text(answer.refusal));
     }
     if 0 < answer.count {
-        print(texts::printing::frame_text(first));
+        print(printing::frame_text(first));
     }
     if 1 < answer.count {
-        print(texts::printing::frame_text(second));
+        print(printing::frame_text(second));
     }
 }
 
 // Two fresh blank blocks.
 fn make_blank(journal: &mut [u8]) {
-    let image = block::blank_image();
+    let image = image::blank();
     if 1024 <= journal.len() {
         bytes::copy(&image, &mut journal[0..512]);
         bytes::copy(&image, &mut journal[512..1024]);
@@ -76,7 +76,7 @@ fn run(device: Device, journal: &mut [u8], text: Text) -> Device {
             stepped.device
         }
         Line::Malformed => {
-            print(texts::printing::refusal_text(MALFORMED));
+            print(printing::refusal_text(MALFORMED));
             device
         }
     }

@@ -7,9 +7,10 @@ use lib.Dec.{leb}
 use lib.ListN.{take}
 use Rattle.texts.specs.declared.Text.{Text}
 use Rattle.texts.specs.Texts.{longerBy, textOf}
-use Rattle.lines.specs.declared.Line.the-variants.{Malformed}
-use Rattle.lines.specs.declared.Parsed.{Parsed}
-use Rattle.lines.specs.Reading.{parsed, plain}
+use Rattle.frame_lines.specs.declared.Parsed.{Parsed}
+use Rattle.frame_lines.specs.Reading.{plain}
+use Rattle.plain_lines.specs.declared.Line.the-variants.{Malformed}
+use Rattle.lines.specs.Reading.{parsed}
 
 -- what is held is read; the mark of a longer line is none of the forms
 unfoldable pub readText : Text → Parsed

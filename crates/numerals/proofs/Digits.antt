@@ -2,7 +2,7 @@
 use mathlib.Core.Path.{_≡_, refl}
 use mathlib.Core.Bool.{Bool, true, false, _&&_}
 use mathlib.Core.List.{List, [], _∷_}
-use Prim.Native.Nat.{ℕ, zero, suc, _+_, _*_, _/_, _≤_, _<_, _^_}
+use Prim.Native.Nat.{ℕ, zero, suc, _+_, _*_, _≤_, _<_, _^_}
 use native.Mathlib.Nat.{le-trans, mul-le-mul-left}
 use native.Mathlib.Numerals.{add-one}
 use native.Mathlib.Omega.{arith}
@@ -13,7 +13,7 @@ use lib.Seq.{drop-cons, drop-length}
 use Rattle.laws.proofs.Bools.{left, right}
 use Rattle.rules.specs.Numbers.{between}
 use Rattle.numerals.specs.declared.Number.the-variants.{Of, Not}
-use Rattle.numerals.specs.Numerals.{bytesIn, digitOf, digits, numberIn, valueFrom}
+use Rattle.numerals.specs.Numerals.{digitOf, digits, numberIn, valueFrom}
 
 pub and-false : (a : Bool) → a && false ≡ false
 and-false true = refl
@@ -73,28 +73,3 @@ module _ (base : ℕ) where
   pub the-number : (s : List ℕ) (n : ℕ) → 0 < length s → digits base s ≡ true → valueFrom base 0 s ≡ n → n < 2 ^ 32 → numberIn base s ≡ Of n
   unfolding numberIn
   the-number s n h d e f = rw (e, d, lt-ltb 0 (length s) h, lt-ltb n (2 ^ 32) f)
-
--- the pairs, one by one
-pub byte-in : (s : List ℕ) (i : ℕ) → 2 * i + 1 < length s → getD (bytesIn s) i 0 ≡ digitOf (getD s (2 * i) 0) * 16 + digitOf (getD s (2 * i + 1) 0)
-unfolding bytesIn
-byte-in [] i h = absurd (omega arith)
-byte-in (a ∷ []) i h = absurd (omega arith)
-byte-in (a ∷ b ∷ s) zero h = refl
-byte-in (a ∷ b ∷ s) (suc i) h =
-    let even : 2 * suc i ≡ suc (suc (2 * i)) = omega arith in
-    let odd : 2 * suc i + 1 ≡ suc (suc (2 * i + 1)) = omega arith in
-    let inside : 2 * i + 1 < length s = omega arith in
-    rw (odd, even) (byte-in s i inside)
-
-pub byte-past : (s : List ℕ) (i : ℕ) → length s ≤ 2 * i + 1 → getD (bytesIn s) i 0 ≡ 0
-unfolding bytesIn
-byte-past [] i h = refl
-byte-past (a ∷ []) i h = refl
-byte-past (a ∷ b ∷ s) zero h = absurd (omega arith)
-byte-past (a ∷ b ∷ s) (suc i) h = byte-past s i (omega arith)
-
-pub bytes-count : (s : List ℕ) → length (bytesIn s) ≡ length s / 2
-unfolding bytesIn
-bytes-count [] = refl
-bytes-count (a ∷ []) = refl
-bytes-count (a ∷ b ∷ s) = omega (arith, bytes-count s)

@@ -1,2 +1,2 @@
--- Document 01, "Sample values": numbers and bytes as the trace program's lines write them.
+-- Document 01, "Sample values": numbers as the trace program's lines write them.
 pub mod Numerals

@@ -1,4 +1,4 @@
--- Numbers and bytes as the lines write them.
+-- Numbers as the lines write them.
 use mathlib.Core.Bool.{Bool, true, cond, _&&_}
 use mathlib.Core.List.{List, [], _∷_}
 use Prim.Native.Nat.{ℕ, _+_, _*_, _-_, _^_}
@@ -33,9 +33,3 @@ numberIn base field =
 -- "in decimal without leading zeros"
 unfoldable pub decimalIn : List ℕ → Number
 decimalIn field = cond (ltb 1 (length field) && eqb (getD field 0 0) 0x30) Not (numberIn 10 field)
-
--- "bytes as joined hex pairs"
-unfoldable pub bytesIn : List ℕ → List ℕ
-bytesIn [] = []
-bytesIn (h ∷ []) = []
-bytesIn (h ∷ l ∷ rest) = (digitOf h * 16 + digitOf l) ∷ bytesIn rest

@@ -1,10 +1,8 @@
-// Numbers and bytes as the lines write them: hex of either case, and decimal.
-ghost use mathlib.Core.Bool.{true};
+// Numbers as the lines write them: hex of either case, and decimal.
 ghost use mathlib.Core.Path.{_≡_};
-ghost use Prim.Native.Nat.{_≤_, _<_};
+ghost use Prim.Native.Nat.{_≤_};
 ghost use lib.ListN.{getD};
-ghost use Rattle.laws.specs.Lists.{elements};
-ghost use Rattle.numerals.specs.Numerals.{bytesIn, decimalIn, digitOf, digits, numberIn};
+ghost use Rattle.numerals.specs.Numerals.{decimalIn, digitOf, numberIn};
 
 // A number of 32 bits, or none.
 pub enum Number {
@@ -25,7 +23,8 @@ pub fn byte_at(s: &[u8], i: usize) -> u8
     0
 }
 
-fn digit(b: u8) -> u8
+// What a digit counts, 16 for a byte that is none.
+pub fn digit(b: u8) -> u8
     ensures { λ r. ⌜ r ≡ digitOf b ⌝ }
 {
     match b {
@@ -40,48 +39,6 @@ fn wide(x: u8) -> u64
     ensures { λ r. ⌜ r ≡ x ⌝ }
 {
     x as u64
-}
-
-// Whether every byte is a hex digit.
-pub fn hex(s: &[u8]) -> bool
-    ensures { λ r. ⌜ r ≡ digits 16 (now (s .entry)) ⌝ }
-{
-    let mut i = 0;
-    while i < s.len() {
-        if 16 <= digit(s[i]) {
-            return false;
-        }
-        i += 1;
-    }
-    true
-}
-
-// The byte of a pair of hex digits, 0 past the last pair.
-pub fn pair_at(s: &[u8], i: usize) -> u8
-    requires { ⌜ (digits 16 (now s) ≡ true) × (i < 8) ⌝ }
-    ensures { λ r. ⌜ r ≡ getD (bytesIn (now (s .entry))) i 0 ⌝ }
-{
-    let at = 2 * i;
-    if s.len() <= at + 1 {
-        return 0;
-    }
-    digit(s[at]) * 16 + digit(s[at + 1])
-}
-
-pub fn first_eight(s: &[u8]) -> [u8; 8]
-    requires { ⌜ digits 16 (now s) ≡ true ⌝ }
-    ensures { λ r. ⌜ r ≡ elements 8 0 (bytesIn (now (s .entry))) ⌝ }
-{
-    [
-        pair_at(s, 0),
-        pair_at(s, 1),
-        pair_at(s, 2),
-        pair_at(s, 3),
-        pair_at(s, 4),
-        pair_at(s, 5),
-        pair_at(s, 6),
-        pair_at(s, 7),
-    ]
 }
 
 // A number that does not fit is given up at once, so that any length is read.

@@ -1,4 +1,4 @@
-// The object table: which object an index and a subindex name, its length and its access.
+// The object table: which object an index and a subindex name.
 use rules::objects::Axis;
 use rules::objects::Channel;
 use rules::objects::Fixed;
@@ -6,7 +6,7 @@ use rules::objects::Found;
 use rules::objects::Object;
 use rules::objects::Setting;
 ghost use mathlib.Core.Path.{_≡_};
-ghost use Rattle.rules.specs.Objects.{objectAt, rowOf, settingRow, fixedRow};
+ghost use Rattle.rules.specs.Objects.{objectAt};
 ghost use Rattle.objects.specs.Rows.{onlyAt, serverAt};
 
 // An index with the one subindex 0.
@@ -143,94 +143,4 @@ pub fn object_at(index: u16, subindex: u8) -> Found
         _ => return Found::NoObject,
     };
     only(subindex, o)
-}
-
-// The length in bytes, and whether it is written.
-pub fn fixed_size(f: Fixed) -> u8
-    ensures { λ r. ⌜ r ≡ fixedRow f .size ⌝ }
-{
-    match f {
-        Fixed::DeviceType => 4,
-        Fixed::ErrorRegister => 1,
-        Fixed::SyncIdentifier => 4,
-        Fixed::SaveCount => 1,
-        Fixed::LoadCount => 1,
-        Fixed::EmergencyIdentifier => 4,
-        Fixed::IdentityCount => 1,
-        Fixed::Vendor => 4,
-        Fixed::Product => 4,
-        Fixed::Revision => 4,
-        Fixed::Serial => 4,
-        Fixed::ServerCount(_) => 1,
-        Fixed::RequestIdentifier(_) => 4,
-        Fixed::ReplyIdentifier(_) => 4,
-        Fixed::PdoCount => 1,
-        Fixed::MappingCount => 1,
-        Fixed::Mapped(_) => 4,
-        Fixed::Blocks => 2,
-    }
-}
-
-pub fn setting_size(s: Setting) -> u8
-    ensures { λ r. ⌜ r ≡ settingRow s .size ⌝ }
-{
-    match s {
-        Setting::Heartbeat => 2,
-        Setting::On => 4,
-        Setting::Transmission => 1,
-        Setting::Timer => 2,
-        Setting::Resolution => 2,
-        Setting::Operating(_) => 1,
-        Setting::Preset(_) => 2,
-        Setting::Offset(_) => 2,
-        Setting::Differential(_) => 2,
-    }
-}
-
-pub fn size(o: Object) -> u8
-    ensures { λ r. ⌜ r ≡ rowOf o .size ⌝ }
-{
-    match o {
-        Object::Const(f) => fixed_size(f),
-        Object::ErrorCount => 1,
-        Object::ErrorEntry(_) => 4,
-        Object::Name => 10,
-        Object::Save => 4,
-        Object::Load => 4,
-        Object::Filled => 2,
-        Object::Angle(_) => 2,
-        Object::Of(s) => setting_size(s),
-    }
-}
-
-fn is_setting_writable(s: Setting) -> bool
-    ensures { λ r. ⌜ r ≡ settingRow s .writable ⌝ }
-{
-    match s {
-        Setting::Heartbeat => true,
-        Setting::On => true,
-        Setting::Transmission => true,
-        Setting::Timer => true,
-        Setting::Resolution => true,
-        Setting::Operating(_) => true,
-        Setting::Preset(_) => true,
-        Setting::Offset(_) => false,
-        Setting::Differential(_) => true,
-    }
-}
-
-pub fn is_writable(o: Object) -> bool
-    ensures { λ r. ⌜ r ≡ rowOf o .writable ⌝ }
-{
-    match o {
-        Object::Const(_) => false,
-        Object::ErrorCount => true,
-        Object::ErrorEntry(_) => false,
-        Object::Name => false,
-        Object::Save => true,
-        Object::Load => true,
-        Object::Filled => false,
-        Object::Angle(_) => false,
-        Object::Of(s) => is_setting_writable(s),
-    }
 }

@@ -48,25 +48,25 @@ fn silent(transfer: u8) -> Outcome
 fn refuse(request: [u8; 8], code: u32) -> Outcome
     ensures { λ r. ⌜ r ≡ Service.refuse request code ⌝ }
 {
-    said(requests::reply(0x80, request, code), states::ABSENT)
+    said(replies::reply(0x80, request, code), states::ABSENT)
 }
 
 fn segment(toggle: u8, transfer: u8) -> Outcome
     ensures { λ r. ⌜ r ≡ onSegment toggle transfer ⌝ }
 {
     if transfer == states::ABSENT {
-        return said(requests::no_transfer(), states::ABSENT);
+        return said(replies::no_transfer(), states::ABSENT);
     }
     if transfer == states::AT_START {
         if toggle == 0 {
-            return said(requests::first_segment(), states::AFTER_SEVEN);
+            return said(replies::first_segment(), states::AFTER_SEVEN);
         }
-        return said(requests::wrong_toggle(), states::ABSENT);
+        return said(replies::wrong_toggle(), states::ABSENT);
     }
     if toggle == 1 {
-        return said(requests::last_segment(), states::ABSENT);
+        return said(replies::last_segment(), states::ABSENT);
     }
-    said(requests::wrong_toggle(), states::ABSENT)
+    said(replies::wrong_toggle(), states::ABSENT)
 }
 
 // Why no object is there; 0 where one is.
@@ -86,10 +86,10 @@ fn read_outcome(request: [u8; 8], got: Got) -> Outcome
 {
     match got {
         Got::Number(size, n) => said(
-            requests::reply(requests::read_first(size), request, n),
+            replies::reply(replies::read_first(size), request, n),
             states::ABSENT,
         ),
-        Got::Text => said(requests::reply(0x41, request, 10), states::AT_START),
+        Got::Text => said(replies::reply(0x41, request, 10), states::AT_START),
         Got::Missing(code) => refuse(request, code),
     }
 }
@@ -100,7 +100,7 @@ fn write_outcome(request: [u8; 8], written: Written) -> Outcome
     match written {
         Written::Changes(change) => Outcome {
             replies: true,
-            bytes: requests::reply(0x60, request, 0),
+            bytes: replies::reply(0x60, request, 0),
             transfer: states::ABSENT,
             change,
         },
@@ -135,7 +135,7 @@ fn write(channel: Channel, request: [u8; 8], given: u8, v: View) -> Outcome
     let Found::At(o) = found else {
         return refuse(request, missing_code(found));
     };
-    let value = requests::value(objects::size(o), request);
+    let value = requests::value(rows::size(o), request);
     write_outcome(request, writes::write(channel, given, o, value, v))
 }
 

@@ -1,3 +1,2 @@
--- Laws of held and printed lines.
+-- Laws of held lines.
 pub mod Longer
-pub mod Printed

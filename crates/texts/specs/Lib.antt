@@ -1,3 +1,2 @@
--- Document 01, "Sample values": a line of the trace program in constant memory, and the lines that it prints.
+-- Document 01, "Sample values": a line of the trace program in constant memory.
 pub mod Texts
-pub mod Printing

@@ -1,6 +1,4 @@
-// A line of the trace program held in constant memory, and the lines that it prints.
-pub mod printing;
-
+// A line of the trace program held in constant memory.
 ghost use mathlib.Core.Path.{_≡_};
 ghost use mathlib.Core.List.{[]};
 ghost use Rattle.texts.specs.Texts.{longer, textOf};

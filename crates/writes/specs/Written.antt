@@ -1,5 +1,4 @@
 -- A write that its checks let pass changes, and one that they refuse gives the code.
-use Prim.Native.Nat.{ℕ}
 use Rattle.rules.specs.declared.requests.Change.{Change}
 use Rattle.rules.specs.declared.requests.Verdict.{Verdict}
 use Rattle.rules.specs.declared.requests.Verdict.the-variants.{Pass, Abort}
@@ -9,8 +8,3 @@ use Rattle.writes.specs.declared.Written.the-variants.{Changes, Refused}
 abbrev pub writtenOf : Verdict → Change → Written
 writtenOf Pass e = Changes e
 writtenOf (Abort code) e = Refused code
-
--- a verdict's abort code, 0 where it passes
-abbrev pub codeOf : Verdict → ℕ
-codeOf Pass = 0
-codeOf (Abort code) = code

@@ -5,7 +5,7 @@ use borrow.Author.Tests.{eq-eqb, ne-eqb}
 use lib.ListN.{length, getD}
 use denote.Ref.{now}
 use Rattle.lines.specs.Reading.{parsed}
-use Rattle.lines.proofs.Fields.{inside, rest}
+use Rattle.plain_lines.proofs.Fields.{inside, rest}
 use borrow.Author.Needs.{needs}
 use Rattle.lines.proofs.parse.Statement.{statement}
 use Rattle.lines.proofs.parse.Tie as tie

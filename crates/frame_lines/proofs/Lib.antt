@@ -1,0 +1,3 @@
+-- Laws of a frame's line and of long ones.
+pub mod Fields
+pub mod Long

@@ -1,0 +1,2 @@
+-- Document 01, "Sample values": the lines F.
+pub mod Reading

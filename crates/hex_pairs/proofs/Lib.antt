@@ -1,0 +1,2 @@
+-- Laws of hex pairs.
+pub mod Pairs

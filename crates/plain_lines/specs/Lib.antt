@@ -1,0 +1,2 @@
+-- Document 01, "Sample values": the lines P, T, X and Y.
+pub mod Reading

@@ -1,0 +1,75 @@
+// The number that an object reads as: one that no request changes, or a setting.
+use rules::objects::Axis;
+use rules::objects::Fixed;
+use rules::objects::Setting;
+use view::View;
+ghost use mathlib.Core.Path.{_≡_};
+ghost use Rattle.rules.specs.declared.objects.Setting.the-variants.{On};
+ghost use Rattle.rules.specs.Cells.{rest, get};
+ghost use Rattle.rules.specs.Reads.{mapping as mappingOf, fixedValue, settingValue};
+ghost use Rattle.rules.specs.Settings.{setting};
+ghost use Rattle.view.specs.Seen.{seen};
+
+fn mapping(axis: Axis) -> u32
+    ensures { λ r. ⌜ r ≡ mappingOf axis ⌝ }
+{
+    match axis {
+        Axis::X => 0x60100010,
+        Axis::Y => 0x60200010,
+    }
+}
+
+// The objects that no request changes.
+pub fn fixed_value(f: Fixed, v: View) -> u32
+    ensures { λ r. ⌜ r ≡ fixedValue f (get rest (seen v)) ⌝ }
+{
+    let node = v.node as u32;
+    match f {
+        Fixed::DeviceType => 0x0002019A,
+        Fixed::ErrorRegister => frames::register(v.spoiled, v.x.state, v.y.state) as u32,
+        Fixed::SyncIdentifier => 0x80,
+        Fixed::SaveCount => 1,
+        Fixed::LoadCount => 1,
+        Fixed::EmergencyIdentifier => 0x80 + node,
+        Fixed::IdentityCount => 4,
+        Fixed::Vendor => v.identity.vendor,
+        Fixed::Product => v.identity.product,
+        Fixed::Revision => v.identity.revision,
+        Fixed::Serial => v.identity.serial,
+        Fixed::ServerCount(_) => 2,
+        Fixed::RequestIdentifier(channel) => (frames::requests_at(channel) as u32) + node,
+        Fixed::ReplyIdentifier(channel) => (frames::replies_at(channel) as u32) + node,
+        Fixed::PdoCount => 5,
+        Fixed::MappingCount => 2,
+        Fixed::Mapped(axis) => mapping(axis),
+        Fixed::Blocks => v.blocks as u32,
+    }
+}
+
+// 1800:1 by its on mark.
+fn on_value(on: u8, node: u8) -> u32
+    ensures { λ r. ⌜ r ≡ settingValue On node on ⌝ }
+{
+    if on == 0 {
+        0xC0000180 + (node as u32)
+    } else {
+        0x40000180 + (node as u32)
+    }
+}
+
+// A setting as the number that is read.
+pub fn setting_value(s: Setting, v: View) -> u32
+    ensures { λ r. ⌜ r ≡ settingValue s (v .node) (setting s (v .running)) ⌝ }
+{
+    match s {
+        Setting::Heartbeat => v.running.heartbeat as u32,
+        Setting::On => on_value(v.running.pdo.on, v.node),
+        Setting::Transmission => v.running.pdo.transmission as u32,
+        Setting::Timer => v.running.pdo.timer as u32,
+        Setting::Resolution => v.running.resolution as u32,
+        Setting::Operating(axis) => v.settings(axis).operating as u32,
+        Setting::Preset(axis) => numbers::bits(v.settings(axis).preset) as u32,
+        Setting::Offset(axis) => numbers::bits(v.settings(axis).offset) as u32,
+        Setting::Differential(axis) => numbers::bits(v.settings(axis).differential) as u32,
+    }
+}
