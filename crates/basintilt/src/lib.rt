@@ -9,7 +9,7 @@ use rules::objects::Axis;
 use rules::parts::Identity;
 ghost use mathlib.Core.Path.{_≡_};
 ghost use Rattle.device.specs.Promise.{PoweredOn};
-ghost use Rattle.basintilt.specs.Happenings.{eventOf, bytesIn};
+ghost use Rattle.basintilt.specs.Happenings.{eventOf};
 ghost use Rattle.basintilt.specs.Lent.{stepOf, journalOf, Lent};
 ghost use Rattle.basintilt.specs.Told.{Told};
 
@@ -48,25 +48,16 @@ fn event_of(happening: Happening) -> Event
     }
 }
 
-// How many bytes the event has: none where its kind is no kind.
-fn bytes_in(happening: Happening) -> u8
-    ensures { λ r. ⌜ r ≡ bytesIn happening ⌝ }
-{
-    if happening.kind <= 4 {
-        happening.length
-    } else {
-        0
-    }
-}
-
-// The step by value.
+// The step by value: an event whose kind is no kind has no bytes.
 fn step(device: Device, journal: &mut [u8], happening: Happening) -> Stepped
     ensures { λ r. ⌜ (r ≡ stepOf device (now (journal .entry)) happening) × (now (journal .exit) ≡ journalOf device (now (journal .entry)) happening) ⌝ }
 {
     let event = event_of(happening);
-    let length = bytes_in(happening);
     let bytes = happening.bytes;
-    device.event(journal, event, bytes, length)
+    if happening.kind <= 4 {
+        return device.event(journal, event, bytes, happening.length);
+    }
+    device.event(journal, event, bytes, 0)
 }
 
 // The recorder lends its one device record and its journal, and finds them updated.

@@ -1,5 +1,5 @@
 -- The journal beside the record: what an event does to the record does not depend on it, and none but a save or a load touches it.
-use mathlib.Core.Path.{_≡_, refl}
+use mathlib.Core.Path.{_≡_, refl, sym, _∙_}
 use mathlib.Core.Bool.{Bool, true, false, cond, _&&_, _||_}
 use mathlib.Core.List.{List}
 use Prim.Native.Nat.{ℕ}
@@ -14,6 +14,7 @@ use Rattle.rules.specs.Readings.{onReading}
 use Rattle.rules.specs.Results.{Result}
 use Rattle.rules.specs.Time.{syncCounts, onTick, onSync}
 use Rattle.device.specs.declared.Device.{Device}
+use Rattle.device.specs.declared.Stepped.{Stepped}
 use Rattle.device.specs.Answers.{steppedOf}
 use Rattle.device.specs.Seen.{seen, alone}
 
@@ -21,6 +22,10 @@ use Rattle.device.specs.Seen.{seen, alone}
 pub record Beside (j : List ℕ) (r s : Result) : Type 0 where
   pub same : steppedOf r ≡ steppedOf s
   pub kept : r .state .journal ≡ j
+
+-- so what moves as s does moves as r does, and leaves the journal
+pub moved : {j : List ℕ} {r s : Result} {t : Stepped} → Beside j r s → t ≡ steppedOf s → (t ≡ steppedOf r) × (j ≡ r .state .journal)
+moved b p = (p ∙ sym (b .same), sym (b .kept))
 
 pub either : (j : List ℕ) (t : Bool) {a b c d : Result} → Beside j a b → Beside j c d → Beside j (cond t a c) (cond t b d)
 either j true x y = x

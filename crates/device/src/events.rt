@@ -78,8 +78,8 @@ impl Device {
                 if (head.identifier <= MOST_IDENTIFIER) & (length <= MOST_LENGTH) {
                     let next = self.receive(journal, head, bytes, length);
                     let device = next.device;
-                    let answer = next.answer;
                     self = device;
+                    let answer = next.answer;
                     return Stepped {
                         device: self,
                         answer,
@@ -94,8 +94,8 @@ impl Device {
                 }
                 let next = self.tick(ms);
                 let device = next.device;
-                let answer = next.answer;
                 self = device;
+                let answer = next.answer;
                 Stepped {
                     device: self,
                     answer,
@@ -108,8 +108,8 @@ impl Device {
                 }
                 let next = self.measure(axis, m);
                 let device = next.device;
-                let answer = next.answer;
                 self = device;
+                let answer = next.answer;
                 Stepped {
                     device: self,
                     answer,

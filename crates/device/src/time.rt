@@ -60,24 +60,13 @@ impl Device {
         }
     }
 
-    // The PDO where the SYNC was the last of its type.
-    fn synchronized(self, sends: bool) -> Answer
-        requires { ⌜ Ranged self ⌝ }
-        ensures { λ r. ⌜ r ≡ answering 0 (when sends (pdoOf (alone self))) ⌝ }
-    {
-        if sends {
-            return Answer::one(self.pdo_frame());
-        }
-        Answer::silent(0)
-    }
-
     pub fn sync(mut self) -> Stepped
         requires { ⌜ Ranged self ⌝ }
         ensures { λ r. ⌜ r ≡ steppedOf (onSync (alone self)) ⌝ }
     {
         if timers::sync_counts(self.network, self.running.pdo) {
             let transmission = self.running.pdo.transmission;
-            let answer = self.synchronized(timers::sync_due(transmission, self.pdo.syncs));
+            let answer = self.timed(false, timers::sync_due(transmission, self.pdo.syncs));
             let counts = PdoCounts {
                 elapsed: self.pdo.elapsed,
                 syncs: timers::syncs_after(transmission, self.pdo.syncs),

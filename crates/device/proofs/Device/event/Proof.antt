@@ -1,5 +1,5 @@
 -- `Device::event` meets its contract: refused with a number, or each arm's event.
-use mathlib.Core.Path.{_≡_, refl, sym, subst⁻¹, _∙_}
+use mathlib.Core.Path.{_≡_, refl, subst⁻¹}
 use mathlib.Core.Bool.{true, false}
 use mathlib.Core.List.{List}
 use Prim.Native.Nat.{ℕ}
@@ -16,26 +16,26 @@ use Rattle.rules.specs.Readings.{onReading}
 use Rattle.rules.specs.Results.{Result, refused}
 use Rattle.rules.specs.State.{State}
 use Rattle.rules.specs.Time.{onTick}
-use Rattle.device.proofs.Beside.{tick-beside, reading-beside}
+use Rattle.device.proofs.Beside.{moved, tick-beside, reading-beside}
 use Rattle.device.proofs.Refused.{refused-with, not-refused, looked-at}
 use Rattle.device.specs.declared.Stepped.{Stepped}
 use Rattle.device.specs.Answers.{steppedOf}
 use Rattle.device.proofs.Device.event.Statement.{statement}
 use Rattle.device.proofs.Device.event.Tie as tie
 
--- each arm's event: a frame that is one, and one that is not; a tick; a reading
-module _ (e : Event) (bytes : List ℕ) (length : ℕ) (u : State) where
-  is-frame : (f : FrameHead) → e ≡ Received f → frameOk f length ≡ true → onEvent e bytes length u ≡ onFrame f bytes length u
-  is-frame f p t = rw p (rw t)
+-- what is looked at, by each arm's event: a frame that is one, and one that is not; a tick; a reading
+module _ (e : Event) (bytes : List ℕ) (length : ℕ) (u : State) {r : Result} (l : r ≡ onEvent e bytes length u) where
+  is-frame : (f : FrameHead) → e ≡ Received f → frameOk f length ≡ true → r ≡ onFrame f bytes length u
+  is-frame f p t = rw l (rw p (rw t))
 
-  no-frame : (f : FrameHead) → e ≡ Received f → frameOk f length ≡ false → onEvent e bytes length u ≡ refused 2 u
-  no-frame f p t = rw p (rw t)
+  no-frame : (f : FrameHead) → e ≡ Received f → frameOk f length ≡ false → r ≡ refused 2 u
+  no-frame f p t = rw l (rw p (rw t))
 
-  is-tick : (ms : ℕ) → e ≡ Tick ms → onEvent e bytes length u ≡ onTick ms u
-  is-tick ms p = rw p
+  is-tick : (ms : ℕ) → e ≡ Tick ms → r ≡ onTick ms u
+  is-tick ms p = rw l (rw p)
 
-  is-reading : (a : Axis) (m : ℤ) → e ≡ Measured a m → onEvent e bytes length u ≡ onReading a m u
-  is-reading a m p = rw p
+  is-reading : (a : Axis) (m : ℤ) → e ≡ Measured a m → r ≡ onReading a m u
+  is-reading a m p = rw l (rw p)
 
 -- a step and a journal that are those of one result are those of an equal one
 like : {r s : Result} (t : Stepped) (j : List ℕ) → s ≡ r → (t ≡ steppedOf r) × (j ≡ r .state .journal) → (t ≡ steppedOf s) × (j ≡ s .state .journal)
@@ -65,7 +65,7 @@ event-spec =
     let j = start .args .journal .now in
     let given = c .before .before .before .before .before .before .before .before .before .before .before .event .given in
     let received = c .before .before .before .before .receive in
-    like _ _ (looked-at d j _ (c .before .before .before .before .before .before .before .before .before .refusal .ensures) (c .before .before .before .before .before .before .before .before .if1 .left) (start .args .event) (start .args .bytes) (start .args .length) ∙ is-frame (start .args .event) (start .args .bytes) (start .args .length) _ (given .0 .0) (given .1) (c .before .before .before .before .before .before .if2 .taken)) (received .ensures))
+    like _ _ (is-frame (start .args .event) (start .args .bytes) (start .args .length) _ (looked-at d j _ (c .before .before .before .before .before .before .before .before .before .refusal .ensures) (c .before .before .before .before .before .before .before .before .if1 .left) (start .args .event) (start .args .bytes) (start .args .length)) (given .0 .0) (given .1) (c .before .before .before .before .before .before .if2 .taken)) (received .ensures))
     (λ c κs. search needs)
     (λ c. search needs)
     (λ c κs. search needs)
@@ -94,19 +94,19 @@ event-spec =
     let d = start .args .self in
     let j = start .args .journal .now in
     let given = c .before .before .before .before .before .before .event .given in
-    like _ _ (looked-at d j _ (c .before .before .before .before .refusal .ensures) (c .before .before .before .if1 .left) (start .args .event) (start .args .bytes) (start .args .length) ∙ no-frame (start .args .event) (start .args .bytes) (start .args .length) _ (given .0 .0) (given .1) (c .before .if2 .left)) (c .stay2 .ensures, refl))
+    like _ _ (no-frame (start .args .event) (start .args .bytes) (start .args .length) _ (looked-at d j _ (c .before .before .before .before .refusal .ensures) (c .before .before .before .if1 .left) (start .args .event) (start .args .bytes) (start .args .length)) (given .0 .0) (given .1) (c .before .if2 .left)) (c .stay2 .ensures, refl))
     (λ c.
     let start = c .before .before .before .before .before .before .before .before .before in
     let d = start .args .self in
     let j = start .args .journal .now in
     let given = c .before .before .before .before .before .before .event2 .given in
     let b = tick-beside d j (given .0 .0) in
-    like _ _ (looked-at d j _ (c .before .before .before .before .refusal2 .ensures) (c .before .before .before .if3 .left) (start .args .event) (start .args .bytes) (start .args .length) ∙ is-tick (start .args .event) (start .args .bytes) (start .args .length) _ (given .0 .0) (given .1)) (c .before .before .tick .ensures ∙ sym (b .same), sym (b .kept)))
+    like _ _ (is-tick (start .args .event) (start .args .bytes) (start .args .length) _ (looked-at d j _ (c .before .before .before .before .refusal2 .ensures) (c .before .before .before .if3 .left) (start .args .event) (start .args .bytes) (start .args .length)) (given .0 .0) (given .1)) (moved b (c .before .before .tick .ensures)))
     (λ c.
     let start = c .before .before .before .before .before .before .before .before .before in
     let d = start .args .self in
     let j = start .args .journal .now in
     let given = c .before .before .before .before .before .before .event3 .given in
     let b = reading-beside d j (given .0 .0) (given .0 .1 .0) in
-    let moved = simp (ok w32 (given .0 .1 .0) (c .before .before .before .before .before .known-told3 .given .1 .0 .1)) at (c .before .before .measure .ensures) in
-    like _ _ (looked-at d j _ (c .before .before .before .before .refusal3 .ensures) (c .before .before .before .if4 .left) (start .args .event) (start .args .bytes) (start .args .length) ∙ is-reading (start .args .event) (start .args .bytes) (start .args .length) _ (given .0 .0) (given .0 .1 .0) (given .1)) (moved ∙ sym (b .same), sym (b .kept))))
+    let shown = simp (ok w32 (given .0 .1 .0) (c .before .before .before .before .before .known-told3 .given .1 .0 .1)) at (c .before .before .measure .ensures) in
+    like _ _ (is-reading (start .args .event) (start .args .bytes) (start .args .length) _ (looked-at d j _ (c .before .before .before .before .refusal3 .ensures) (c .before .before .before .if4 .left) (start .args .event) (start .args .bytes) (start .args .length)) (given .0 .0) (given .0 .1 .0) (given .1)) (moved b shown)))
