@@ -4,7 +4,7 @@ use mathlib.Core.List.{List, [], _∷_}
 use Prim.Native.Nat.{ℕ, _≤_}
 use native.Mathlib.Omega.{arith}
 use lib.ListN.{length}
-use Rattle.device.specs.Answers.{answerOf}
+use Rattle.device.specs.Answers.{answering}
 use Rattle.device.specs.declared.Stepped.{Stepped}
 use Rattle.device.specs.Promise.{eventOn}
 use Rattle.device.specs.Seen.{seen}
@@ -12,17 +12,16 @@ use Rattle.rules.proofs.TwoFrames.{event-sends, power-on-sends}
 use Rattle.rules.specs.declared.events.Frame.{Frame}
 use Rattle.rules.specs.PowerOn.{powerOn}
 use Rattle.rules.specs.Results.{Result}
-use Rattle.rules.specs.State.{State}
 use Rattle.promises.specs.TwoFrames.{framesIn, EventFrames, PowerOnFrames}
 
-all-there : (number : ℕ) (u : State) (frames : List Frame) → length frames ≤ 2 → framesIn (answerOf (record { refusal = number; state = u; sent = frames })) ≡ frames
-all-there number u [] h = refl
-all-there number u (f ∷ []) h = refl
-all-there number u (f ∷ g ∷ []) h = refl
-all-there number u (f ∷ g ∷ i ∷ l) h = absurd (omega arith)
+all-there : (number : ℕ) (frames : List Frame) → length frames ≤ 2 → framesIn (answering number frames) ≡ frames
+all-there number [] h = refl
+all-there number (f ∷ []) h = refl
+all-there number (f ∷ g ∷ []) h = refl
+all-there number (f ∷ g ∷ i ∷ l) h = absurd (omega arith)
 
-of-result : (r : Result) → length (r .sent) ≤ 2 → framesIn (answerOf r) ≡ r .sent
-of-result r h = all-there (r .refusal) (r .state) (r .sent) h
+of-result : (r : Result) → length (r .sent) ≤ 2 → framesIn (answering (r .refusal) (r .sent)) ≡ r .sent
+of-result r h = all-there (r .refusal) (r .sent) h
 
 pub event-frames : EventFrames
 event-frames d j e bytes n r k given =

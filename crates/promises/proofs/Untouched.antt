@@ -7,7 +7,7 @@ use Rattle.basintilt.specs.Lent.{stepOf, journalOf}
 use Rattle.device.specs.declared.Answer.{Answer}
 use Rattle.device.specs.declared.Device.{Device}
 use Rattle.device.specs.declared.Stepped.{Stepped}
-use Rattle.device.specs.Answers.{answerOf}
+use Rattle.device.specs.Answers.{answering}
 use Rattle.device.specs.Seen.{seen, held}
 use Rattle.rules.proofs.Refusals.{Untouched, event-left, power-on-untouched, range-first, zero-out}
 use Rattle.rules.specs.Events.{event}
@@ -19,7 +19,7 @@ use Rattle.promises.specs.Untouched.{silent, LentUntouched, EventUntouch
 -- a result that is refused, as the answer, the record and the journal that are handed back
 handed-back : (u : State) (r : Result) (a : Answer) (d : Device) (j : List ℕ)
     → Untouched u r
-    → a ≡ answerOf r
+    → a ≡ answering (r .refusal) (r .sent)
     → d ≡ held (r .state)
     → j ≡ r .state .journal
     → ¬ (a .refusal ≡ 0)
