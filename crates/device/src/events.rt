@@ -1,6 +1,7 @@
 // One event: refused by number, or what it does.
 use crate::Device;
 use crate::Stepped;
+use crate::WRONG_LENGTH;
 use rules::events::Event;
 use rules::events::FrameHead;
 use rules::objects::Channel;
@@ -13,8 +14,6 @@ ghost use Rattle.device.specs.Promise.{Answered};
 ghost use Rattle.device.specs.Seen.{alone, seen, Ranged, refusalOf};
 
 const RECORD_OUT_OF_RANGE: u8 = 3;
-
-const WRONG_LENGTH: u8 = 1;
 
 const WRONG_FRAME: u8 = 2;
 

@@ -18,6 +18,9 @@ ghost use mathlib.Core.Path.{_≡_};
 ghost use mathlib.Core.List.{[], _∷_};
 ghost use Rattle.device.specs.Answers.{answering};
 
+// The refusal that power-on and an event share.
+const WRONG_LENGTH: u8 = 1;
+
 // The device record: plain numbers, so that any record can be given, and refused.
 #[repr(C)]
 pub struct Device {

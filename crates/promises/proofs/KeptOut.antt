@@ -8,7 +8,6 @@ use lib.ListN.{getD}
 use Rattle.interleaving.specs.Runs.{Sensor}
 use Rattle.rules.proofs.Accepted.{tick-accepted}
 use Rattle.rules.proofs.Frames.{request-received}
-use Rattle.rules.proofs.Kept.{fresh}
 use Rattle.rules.proofs.Refusals.{then-its-kind}
 use Rattle.rules.proofs.Stays.{start-stays}
 use Rattle.rules.specs.declared.events.Event.{Event}
@@ -17,8 +16,8 @@ use Rattle.rules.specs.declared.events.Frame.{Frame}
 use Rattle.rules.specs.declared.objects.Channel.{Channel}
 use Rattle.rules.specs.declared.objects.Channel.the-variants.{One}
 use Rattle.rules.specs.declared.parts.Identity.{Identity}
-use Rattle.rules.specs.Events.{onService, onFrame, onEvent, NotRefused, event}
-use Rattle.rules.specs.Journal.{lengthOk}
+use Rattle.rules.specs.Events.{onService, onFrame, onEvent, request, NotRefused, event}
+use Rattle.rules.specs.Journal.{lengthOk, blankBlocks}
 use Rattle.rules.specs.Network.{onNetwork, onCommand, start}
 use Rattle.rules.specs.Numbers.{twoAt}
 use Rattle.rules.specs.Objects.{find}
@@ -28,24 +27,24 @@ use Rattle.rules.specs.Requests.{commandOf}
 use Rattle.rules.specs.Results.{Result}
 use Rattle.rules.specs.Service.{served}
 use Rattle.rules.specs.State.{State}
-use Rattle.promises.specs.KeptOut.{KeptOut, request, Serves, read2100, filledBlocks, RefusesAll, AnswersAlike, ChangesNothing, WorksOnce, Invents2100, Constant}
+use Rattle.promises.specs.KeptOut.{KeptOut, Serves, read2100, filledBlocks, RefusesAll, AnswersAlike, ChangesNothing, WorksOnce, Invents2100, Constant}
 
 abbrev noIdentity : Identity
 noIdentity = record { vendor = 0; product = 0; revision = 0; serial = 0 }
 
 abbrev device : State
-device = powerOn 1 noIdentity (fresh 1) .state
+device = powerOn 1 noIdentity (blankBlocks 1) .state
 
-accepted : powerOn 1 noIdentity (fresh 1) .refusal ≡ 0
-unfolding powerOn lengthOk fresh start
+accepted : powerOn 1 noIdentity (blankBlocks 1) .refusal ≡ 0
+unfolding powerOn lengthOk blankBlocks start
 accepted = refl
 
 pre-operational : device .network ≡ 127
-unfolding powerOn lengthOk fresh start
+unfolding powerOn lengthOk blankBlocks start
 pre-operational = refl
 
 fine : NotRefused device
-fine = start-stays 1 noIdentity (fresh 1) accepted
+fine = start-stays 1 noIdentity (blankBlocks 1) accepted
 
 serves : Serves device
 serves = (fine, ap served pre-operational)
@@ -93,7 +92,7 @@ constant-sensor sensor (number, frames, same) = changes-nothing sensor (λ e byt
 pub works-once : KeptOut WorksOnce
 works-once sensor once meets =
     let same : sensor (network true) [] 0 device .state ≡ device = ap state (meets (network true) [] 0 device) ∙ does-nothing in
-    let still = once 1 noIdentity (fresh 1) accepted (network true) (network false) [] toStart 0 2 .0 in
+    let still = once 1 noIdentity (blankBlocks 1) accepted (network true) (network false) [] toStart 0 2 .0 in
     moves (ap state (sym (meets (network false) toStart 2 device)) ∙ rw same at still)
 
 -- reads of 1000:0 and of 1018:0 are answered 43h and 4Fh first
@@ -114,7 +113,7 @@ on-channel : (bytes : List ℕ) → answered bytes ≡ firstByte (onService One 
 on-channel bytes = ap (λ (r : Result). firstByte (r .sent)) (request-received false bytes 8 device (fine .0) (fine .1) One)
 
 different : (answered read1000 ≡ 0x43) × (answered read1018 ≡ 0x4F)
-unfolding powerOn lengthOk fresh start onService commandOf find reply twoAt
+unfolding powerOn lengthOk blankBlocks start onService commandOf find reply twoAt
 different = (on-channel read1000, on-channel read1018)
 
 -- what is answered, and with one frame if at all, begins as that frame does

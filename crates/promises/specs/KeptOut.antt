@@ -1,17 +1,16 @@
 -- Demand 2: the sensors that it keeps out, each as what holds of every sensor of its kind.
 use mathlib.Core.Path.{_≡_}
-use mathlib.Core.Bool.{true, false}
+use mathlib.Core.Bool.{true}
 use mathlib.Core.List.{List, [], _∷_}
-use Prim.Native.Nat.{ℕ, _+_}
+use Prim.Native.Nat.{ℕ}
 use Rattle.interleaving.specs.Demand3.{constant}
 use Rattle.interleaving.specs.Runs.{Sensor}
 use Rattle.rules.specs.declared.events.Event.{Event}
-use Rattle.rules.specs.declared.events.Event.the-variants.{Received}
 use Rattle.rules.specs.declared.events.Frame.{Frame}
 use Rattle.rules.specs.declared.objects.Channel.{Channel}
 use Rattle.rules.specs.declared.parts.Identity.{Identity}
-use Rattle.rules.specs.Events.{NotRefused, event}
-use Rattle.rules.specs.Frames.{requestsAt, replyFrame}
+use Rattle.rules.specs.Events.{request, NotRefused, event}
+use Rattle.rules.specs.Frames.{replyFrame}
 use Rattle.rules.specs.Numbers.{four}
 use Rattle.rules.specs.PowerOn.{powerOn}
 use Rattle.rules.specs.Service.{served}
@@ -25,10 +24,7 @@ Meets sensor = (e : Event) (bytes : List ℕ) (n : ℕ) (u : State) → sensor e
 abbrev pub KeptOut : (Sensor → Type 0) → Type 0
 KeptOut Kind = (sensor : Sensor) → Kind sensor → ¬ Meets sensor
 
--- a request on a channel, and a record that serves it
-abbrev pub request : Channel → State → Event
-request c u = Received (record { identifier = requestsAt c + u .node; remote = false })
-
+-- a record that serves requests
 abbrev pub Serves : State → Type 0
 Serves u = NotRefused u × (served (u .network) ≡ true)
 

@@ -1,6 +1,6 @@
 -- The device and what moves it: an event, with refusals 3, 1 and 2 in this order.
 use mathlib.Core.Path.{_≡_}
-use mathlib.Core.Bool.{Bool, true, cond, _&&_}
+use mathlib.Core.Bool.{Bool, true, false, cond, _&&_}
 use mathlib.Core.List.{List, [], _∷_}
 use Prim.Native.Nat.{ℕ, _+_, _*_}
 use lib.Dec.{eqb, leb}
@@ -49,6 +49,10 @@ onEvent (Measured a m) bytes length u = onReading a m u
 -- "1 … not the length at power-on": 512 times the record's blocks
 abbrev pub journalFits : State → Bool
 journalFits u = eqb (length (u .journal)) (512 * u .saves .blocks)
+
+-- a request's frame on a channel: "600h+node", "680h+node"
+abbrev pub request : Channel → State → Event
+request c u = Received (record { identifier = requestsAt c + u .node; remote = false })
 
 -- "any record that is not refused", with its journal
 abbrev pub NotRefused : State → Type 0

@@ -1,6 +1,5 @@
 -- The device and what moves it, the ranges: what a device record holds that is not refused with 3.
 use mathlib.Core.Bool.{Bool, cond, not, _&&_, _||_}
-use mathlib.Core.List.{[]}
 use Prim.Native.Nat.{ℕ}
 use lib.Dec.{eqb, ltb, leb}
 use lib.IntN.{ℤ, pos}
