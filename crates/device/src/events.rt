@@ -8,7 +8,8 @@ use rules::objects::Channel;
 ghost use mathlib.Core.Path.{_≡_};
 ghost use Prim.Native.Nat.{_*_};
 ghost use lib.ListN.{length as lengthOf};
-ghost use Rattle.rules.specs.Events.{onFrame};
+ghost use Rattle.rules.specs.declared.events.Event.the-variants.{Received};
+ghost use Rattle.rules.specs.Events.{onEvent};
 ghost use Rattle.device.specs.Answers.{steppedOf};
 ghost use Rattle.device.specs.Promise.{Answered};
 ghost use Rattle.device.specs.Seen.{alone, seen, Ranged, refusalOf};
@@ -24,12 +25,15 @@ const MOST_LENGTH: u8 = 8;
 const SYNC_AT: u32 = 0x80;
 
 impl Device {
-    // A frame that some rule names, or that does nothing.
+    // A frame that is wrong, that some rule names, or that does nothing.
     fn receive(self, journal: &mut [u8], head: FrameHead, bytes: [u8; 8], length: u8) -> Stepped
         requires { ⌜ (Ranged self) × (lengthOf (now journal) ≡ 512 * self .saves .blocks) ⌝ }
-        ensures { λ r. ⌜ (r ≡ steppedOf (onFrame head bytes length (seen self (now (journal .entry)))))
-            × (now (journal .exit) ≡ onFrame head bytes length (seen self (now (journal .entry))) .state .journal) ⌝ }
+        ensures { λ r. ⌜ (r ≡ steppedOf (onEvent (Received head) bytes length (seen self (now (journal .entry)))))
+            × (now (journal .exit) ≡ onEvent (Received head) bytes length (seen self (now (journal .entry))) .state .journal) ⌝ }
     {
+        if !((head.identifier <= MOST_IDENTIFIER) & (length <= MOST_LENGTH)) {
+            return self.stay(WRONG_FRAME);
+        }
         if head.remote {
             return self.stay(0);
         }
@@ -74,17 +78,7 @@ impl Device {
                 if refusal != 0 {
                     return self.stay(refusal);
                 }
-                if (head.identifier <= MOST_IDENTIFIER) & (length <= MOST_LENGTH) {
-                    let next = self.receive(journal, head, bytes, length);
-                    let device = next.device;
-                    self = device;
-                    let answer = next.answer;
-                    return Stepped {
-                        device: self,
-                        answer,
-                    };
-                }
-                self.stay(WRONG_FRAME)
+                self.receive(journal, head, bytes, length)
             }
             Event::Tick(ms) => {
                 let refusal = self.refusal(journal.len());

@@ -5,19 +5,29 @@ ghost use Rattle.rules.specs.Ranges.{inRange};
 ghost use Rattle.device.specs.Seen.{alone};
 
 impl Device {
+    // The first part that is out of its range ends the tests.
     pub fn in_range(self) -> bool
         ensures { λ r. ⌜ r ≡ inRange (alone self) ⌝ }
     {
-        ranges::node_ok(self.node as u32)
-            & ranges::network_ok(self.network)
-            & ranges::saves_ok(self.saves)
-            & ranges::in_table(self.running)
-            & ranges::errors_ok(self.errors)
-            & ranges::elapsed_ok(self.running.heartbeat, self.heartbeat)
+        if !ranges::saves_ok(self.saves) {
+            return false;
+        }
+        if !(ranges::transfer_ok(self.one) & ranges::transfer_ok(self.two)) {
+            return false;
+        }
+        if !ranges::in_table(self.running) {
+            return false;
+        }
+        if !(ranges::axis_ok(self.x) & ranges::axis_ok(self.y)) {
+            return false;
+        }
+        if !ranges::errors_ok(self.errors) {
+            return false;
+        }
+        if !(ranges::node_ok(self.node as u32) & ranges::network_ok(self.network)) {
+            return false;
+        }
+        ranges::elapsed_ok(self.running.heartbeat, self.heartbeat)
             & ranges::counts_ok(self.running.pdo, self.pdo)
-            & ranges::transfer_ok(self.one)
-            & ranges::transfer_ok(self.two)
-            & ranges::axis_ok(self.x)
-            & ranges::axis_ok(self.y)
     }
 }

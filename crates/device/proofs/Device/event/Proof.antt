@@ -1,6 +1,5 @@
 -- `Device::event` meets its contract: refused with a number, or each arm's event.
 use mathlib.Core.Path.{_≡_, refl, subst⁻¹}
-use mathlib.Core.Bool.{true, false}
 use mathlib.Core.List.{List}
 use Prim.Native.Nat.{ℕ}
 use borrow.Author.Needs.{needs}
@@ -11,9 +10,9 @@ use Rattle.rules.specs.declared.events.Event.{Event}
 use Rattle.rules.specs.declared.events.Event.the-variants.{Received, Tick, Measured}
 use Rattle.rules.specs.declared.events.FrameHead.{FrameHead}
 use Rattle.rules.specs.declared.objects.Axis.{Axis}
-use Rattle.rules.specs.Events.{frameOk, onFrame, onEvent}
+use Rattle.rules.specs.Events.{onEvent}
 use Rattle.rules.specs.Readings.{onReading}
-use Rattle.rules.specs.Results.{Result, refused}
+use Rattle.rules.specs.Results.{Result}
 use Rattle.rules.specs.State.{State}
 use Rattle.rules.specs.Time.{onTick}
 use Rattle.device.proofs.Beside.{moved, tick-beside, reading-beside}
@@ -23,13 +22,10 @@ use Rattle.device.specs.Answers.{steppedOf}
 use Rattle.device.proofs.Device.event.Statement.{statement}
 use Rattle.device.proofs.Device.event.Tie as tie
 
--- what is looked at, by each arm's event: a frame that is one, and one that is not; a tick; a reading
+-- what is looked at, by each arm's event: a frame, a tick, a reading
 module _ (e : Event) (bytes : List ℕ) (length : ℕ) (u : State) {r : Result} (l : r ≡ onEvent e bytes length u) where
-  is-frame : (f : FrameHead) → e ≡ Received f → frameOk f length ≡ true → r ≡ onFrame f bytes length u
-  is-frame f p t = rw l (rw p (rw t))
-
-  no-frame : (f : FrameHead) → e ≡ Received f → frameOk f length ≡ false → r ≡ refused 2 u
-  no-frame f p t = rw l (rw p (rw t))
+  is-frame : (f : FrameHead) → e ≡ Received f → r ≡ onEvent (Received f) bytes length u
+  is-frame f p = rw l (rw p)
 
   is-tick : (ms : ℕ) → e ≡ Tick ms → r ≡ onTick ms u
   is-tick ms p = rw l (rw p)
@@ -54,19 +50,8 @@ event-spec =
     let j = start .args .journal .now in
     like _ _ (refused-with d j _ (c .before .before .refusal .ensures) (c .before .if1 .taken) (start .args .event) (start .args .bytes) (start .args .length)) (c .stay .ensures, refl))
     (λ c κs.
-    let start = c .before .before .before .before .before .before .before .before .before in
-    let d = start .args .self in
-    let j = start .args .journal .now in
-    not-refused d j _ (c .before .before .before .before .refusal .ensures) (c .before .before .before .if1 .left))
-    (λ c. search needs)
-    (λ c.
-    let start = c .before .before .before .before .before .before .before .before .before .before .before .before .before .before in
-    let d = start .args .self in
-    let j = start .args .journal .now in
-    let given = c .before .before .before .before .before .before .before .before .before .before .before .event .given in
-    let received = c .before .before .before .before .receive in
-    like _ _ (is-frame (start .args .event) (start .args .bytes) (start .args .length) _ (looked-at d j _ (c .before .before .before .before .before .before .before .before .before .refusal .ensures) (c .before .before .before .before .before .before .before .before .if1 .left) (start .args .event) (start .args .bytes) (start .args .length)) (given .0 .0) (given .1) (c .before .before .before .before .before .before .if2 .taken)) (received .ensures))
-    (λ c κs. search needs)
+    let start = c .before .before .before .before .before .before .before in
+    not-refused (start .args .self) (start .args .journal .now) _ (c .before .before .refusal .ensures) (c .before .if1 .left))
     (λ c. search needs)
     (λ c κs. search needs)
     (λ c κs. search needs)
@@ -74,12 +59,10 @@ event-spec =
     let start = c .before .before .before .before .before .before .before in
     let d = start .args .self in
     let j = start .args .journal .now in
-    like _ _ (refused-with d j _ (c .before .before .refusal2 .ensures) (c .before .if3 .taken) (start .args .event) (start .args .bytes) (start .args .length)) (c .stay3 .ensures, refl))
+    like _ _ (refused-with d j _ (c .before .before .refusal2 .ensures) (c .before .if2 .taken) (start .args .event) (start .args .bytes) (start .args .length)) (c .stay2 .ensures, refl))
     (λ c κs.
     let start = c .before .before .before .before .before .before in
-    let d = start .args .self in
-    let j = start .args .journal .now in
-    not-refused d j _ (c .before .refusal2 .ensures) (c .if3 .left) .0)
+    not-refused (start .args .self) (start .args .journal .now) _ (c .before .refusal2 .ensures) (c .if2 .left) .0)
     (λ c. search needs)
     (λ c κs. search needs)
     (λ c κs. search needs)
@@ -87,26 +70,30 @@ event-spec =
     let start = c .before .before .before .before .before .before .before in
     let d = start .args .self in
     let j = start .args .journal .now in
-    like _ _ (refused-with d j _ (c .before .before .refusal3 .ensures) (c .before .if4 .taken) (start .args .event) (start .args .bytes) (start .args .length)) (c .stay4 .ensures, refl))
+    like _ _ (refused-with d j _ (c .before .before .refusal3 .ensures) (c .before .if3 .taken) (start .args .event) (start .args .bytes) (start .args .length)) (c .stay3 .ensures, refl))
     (λ c κs. search needs)
+    (λ c. search needs)
     (λ c.
-    let start = c .before .before .before .before .before .before .before .before .before in
+    let asked = c .before .before .before .before in
+    let start = asked .before .before .before .before .before .before in
     let d = start .args .self in
     let j = start .args .journal .now in
-    let given = c .before .before .before .before .before .before .event .given in
-    like _ _ (no-frame (start .args .event) (start .args .bytes) (start .args .length) _ (looked-at d j _ (c .before .before .before .before .refusal .ensures) (c .before .before .before .if1 .left) (start .args .event) (start .args .bytes) (start .args .length)) (given .0 .0) (given .1) (c .before .if2 .left)) (c .stay2 .ensures, refl))
+    let given = asked .before .before .before .event .given in
+    like _ _ (is-frame (start .args .event) (start .args .bytes) (start .args .length) _ (looked-at d j _ (asked .before .refusal .ensures) (asked .if1 .left) (start .args .event) (start .args .bytes) (start .args .length)) (given .0 .0) (given .1)) (c .before .before .receive .ensures))
     (λ c.
-    let start = c .before .before .before .before .before .before .before .before .before in
+    let asked = c .before .before .before in
+    let start = asked .before .before .before .before .before .before in
     let d = start .args .self in
     let j = start .args .journal .now in
-    let given = c .before .before .before .before .before .before .event2 .given in
+    let given = asked .before .before .before .event2 .given in
     let b = tick-beside d j (given .0 .0) in
-    like _ _ (is-tick (start .args .event) (start .args .bytes) (start .args .length) _ (looked-at d j _ (c .before .before .before .before .refusal2 .ensures) (c .before .before .before .if3 .left) (start .args .event) (start .args .bytes) (start .args .length)) (given .0 .0) (given .1)) (moved b (c .before .before .tick .ensures)))
+    like _ _ (is-tick (start .args .event) (start .args .bytes) (start .args .length) _ (looked-at d j _ (asked .before .refusal2 .ensures) (asked .if2 .left) (start .args .event) (start .args .bytes) (start .args .length)) (given .0 .0) (given .1)) (moved b (c .before .before .tick .ensures)))
     (λ c.
-    let start = c .before .before .before .before .before .before .before .before .before in
+    let asked = c .before .before .before in
+    let start = asked .before .before .before .before .before .before in
     let d = start .args .self in
     let j = start .args .journal .now in
-    let given = c .before .before .before .before .before .before .event3 .given in
+    let given = asked .before .before .before .event3 .given in
     let b = reading-beside d j (given .0 .0) (given .0 .1 .0) in
-    let shown = simp (ok w32 (given .0 .1 .0) (c .before .before .before .before .before .known-told3 .given .1 .0 .1)) at (c .before .before .measure .ensures) in
-    like _ _ (is-reading (start .args .event) (start .args .bytes) (start .args .length) _ (looked-at d j _ (c .before .before .before .before .refusal3 .ensures) (c .before .before .before .if4 .left) (start .args .event) (start .args .bytes) (start .args .length)) (given .0 .0) (given .0 .1 .0) (given .1)) (moved b shown)))
+    let shown = simp (ok w32 (given .0 .1 .0) (asked .before .before .known-told3 .given .1 .0 .1)) at (c .before .before .measure .ensures) in
+    like _ _ (is-reading (start .args .event) (start .args .bytes) (start .args .length) _ (looked-at d j _ (asked .before .refusal3 .ensures) (asked .if3 .left) (start .args .event) (start .args .bytes) (start .args .length)) (given .0 .0) (given .0 .1 .0) (given .1)) (moved b shown)))
