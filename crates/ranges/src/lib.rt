@@ -27,8 +27,8 @@ pub fn in_table(s: Settings) -> bool
     let resolution = s.resolution;
     ((period == 0) | (Settings::LEAST_PERIOD <= period))
         & (s.pdo.on <= 1)
-        & (((PdoSettings::LEAST_SYNCHRONOUS <= transmission)
-            & (transmission <= PdoSettings::MOST_SYNCHRONOUS))
+        & (PdoSettings::LEAST_SYNCHRONOUS <= transmission)
+        & ((transmission <= PdoSettings::MOST_SYNCHRONOUS)
             | (PdoSettings::LEAST_TIMED <= transmission))
         & ((resolution == 1) | (resolution == 10) | (resolution == 100) | (resolution == 1000))
         & (s.x.operating <= AxisSettings::MOST_OPERATING)
@@ -75,6 +75,13 @@ pub fn errors_ok(l: ErrorList) -> bool
 {
     let n = l.length;
     let codes = l.codes;
+    if n == 0 {
+        return (codes[0] == 0)
+            & (codes[1] == 0)
+            & (codes[2] == 0)
+            & (codes[3] == 0)
+            & (codes[4] == 0);
+    }
     (n <= ErrorList::MOST)
         & code_ok(n, 0, codes[0])
         & code_ok(n, 1, codes[1])
@@ -86,29 +93,28 @@ pub fn errors_ok(l: ErrorList) -> bool
 pub fn elapsed_ok(period: u16, elapsed: u16) -> bool
     ensures { λ r. ⌜ r ≡ elapsedOk period elapsed ⌝ }
 {
-    if period == 0 {
-        elapsed == 0
-    } else {
-        elapsed < period
+    if elapsed == 0 {
+        return true;
     }
+    elapsed < period
 }
 
 fn syncs_ok(transmission: u8, syncs: u8) -> bool
     ensures { λ r. ⌜ r ≡ syncsOk transmission syncs ⌝ }
 {
-    if (PdoSettings::LEAST_SYNCHRONOUS <= transmission)
-        & (transmission <= PdoSettings::MOST_SYNCHRONOUS)
-    {
-        syncs < transmission
-    } else {
-        syncs == 0
+    if syncs == 0 {
+        return true;
     }
+    (syncs < transmission) & (transmission <= PdoSettings::MOST_SYNCHRONOUS)
 }
 
 pub fn counts_ok(s: PdoSettings, c: PdoCounts) -> bool
     ensures { λ r. ⌜ r ≡ countsOk s c ⌝ }
 {
-    elapsed_ok(s.timer, c.elapsed) & syncs_ok(s.transmission, c.syncs)
+    if !elapsed_ok(s.timer, c.elapsed) {
+        return false;
+    }
+    syncs_ok(s.transmission, c.syncs)
 }
 
 pub fn transfer_ok(transfer: u8) -> bool
@@ -126,7 +132,8 @@ pub fn inside(m: i32) -> bool
 pub fn axis_ok(x: Reading) -> bool
     ensures { λ r. ⌜ r ≡ axisOk x ⌝ }
 {
-    (x.state <= states::FAULTY)
-        & inside(x.m)
-        & ((x.state != states::NONE) | ((0 <= x.m) & (x.m <= 0)))
+    if x.state == states::NONE {
+        return (0 <= x.m) & (x.m <= 0);
+    }
+    (x.state <= states::FAULTY) & inside(x.m)
 }
