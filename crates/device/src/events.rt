@@ -85,10 +85,10 @@ impl Device {
                 if refusal != 0 {
                     return self.stay(refusal);
                 }
-                let next = self.tick(ms);
-                let device = next.device;
-                self = device;
-                let answer = next.answer;
+                let answer = self.ticking(ms);
+                let period = self.running.heartbeat;
+                self.heartbeat = timers::elapsed_after(true, period, self.heartbeat, ms);
+                self.pdo = timers::ticked(self.network, self.running.pdo, self.pdo, ms);
                 Stepped {
                     device: self,
                     answer,

@@ -24,40 +24,27 @@ impl Device {
         requires { ⌜ Ranged self ⌝ }
         ensures { λ r. ⌜ r ≡ answering 0 (when beats (heartbeat (self .node) (self .network)) ++ when sends (pdoOf (alone self))) ⌝ }
     {
-        if beats {
-            let first = frames::heartbeat(self.node, self.network);
-            if sends {
-                return Answer::two(first, self.pdo_frame());
+        if !sends {
+            if beats {
+                return Answer::one(frames::heartbeat(self.node, self.network));
             }
-            return Answer::one(first);
+            return Answer::silent(0);
         }
-        if sends {
-            return Answer::one(self.pdo_frame());
+        let pdo = self.pdo_frame();
+        if beats {
+            return Answer::two(frames::heartbeat(self.node, self.network), pdo);
         }
-        Answer::silent(0)
+        Answer::one(pdo)
     }
 
-    pub fn tick(mut self, ms: u16) -> Stepped
+    // What a tick sends; its counts go up in the record itself.
+    pub fn ticking(self, ms: u16) -> Answer
         requires { ⌜ Ranged self ⌝ }
-        ensures { λ r. ⌜ r ≡ steppedOf (onTick ms (alone self)) ⌝ }
+        ensures { λ r. ⌜ r ≡ answering 0 (onTick ms (alone self) .sent) ⌝ }
     {
-        let period = self.running.heartbeat;
-        let timer = self.running.pdo.timer;
-        let runs = timers::timer_runs(self.network, self.running.pdo);
-        let beats = timers::reaches(true, period, self.heartbeat, ms);
-        let sends = timers::reaches(runs, timer, self.pdo.elapsed, ms);
-        let answer = self.timed(beats, sends);
-        let elapsed = timers::elapsed_after(runs, timer, self.pdo.elapsed, ms);
-        self.heartbeat = timers::elapsed_after(true, period, self.heartbeat, ms);
-        let counts = PdoCounts {
-            elapsed,
-            syncs: self.pdo.syncs,
-        };
-        self.pdo = counts;
-        Stepped {
-            device: self,
-            answer,
-        }
+        let beats = timers::reaches(true, self.running.heartbeat, self.heartbeat, ms);
+        let sends = timers::tick_sends(self.network, self.running.pdo, self.pdo, ms);
+        self.timed(beats, sends)
     }
 
     pub fn sync(mut self) -> Stepped

@@ -1,4 +1,5 @@
 // Elapsed and SYNC counts: when they run, when they reach their period, and what they are then.
+use rules::parts::PdoCounts;
 use rules::settings::PdoSettings;
 use rules::states;
 ghost use mathlib.Core.Path.{_≡_};
@@ -36,6 +37,22 @@ pub fn timer_runs(network: u8, s: PdoSettings) -> bool
     ensures { λ r. ⌜ r ≡ timerRunsOf network s ⌝ }
 {
     sending(network, s) & (PdoSettings::LEAST_TIMED <= s.transmission)
+}
+
+// The PDO goes out with a tick of so many milliseconds.
+pub fn tick_sends(network: u8, s: PdoSettings, c: PdoCounts, ms: u16) -> bool
+    ensures { λ r. ⌜ r ≡ Time.reaches (timerRunsOf network s) (s .timer) (c .elapsed) ms ⌝ }
+{
+    reaches(timer_runs(network, s), s.timer, c.elapsed, ms)
+}
+
+pub fn ticked(network: u8, s: PdoSettings, c: PdoCounts, ms: u16) -> PdoCounts
+    ensures { λ r. ⌜ r ≡ record { elapsed = Time.elapsedAfter (timerRunsOf network s) (s .timer) (c .elapsed) ms; syncs = c .syncs } ⌝ }
+{
+    PdoCounts {
+        elapsed: elapsed_after(timer_runs(network, s), s.timer, c.elapsed, ms),
+        syncs: c.syncs,
+    }
 }
 
 pub fn sync_counts(network: u8, s: PdoSettings) -> bool

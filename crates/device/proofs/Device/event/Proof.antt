@@ -1,5 +1,6 @@
 -- `Device::event` meets its contract: refused with a number, or each arm's event.
 use mathlib.Core.Path.{_≡_, refl, subst⁻¹}
+use mathlib.Core.Bool.{true}
 use mathlib.Core.List.{List}
 use Prim.Native.Nat.{ℕ}
 use borrow.Author.Needs.{needs}
@@ -13,12 +14,16 @@ use Rattle.rules.specs.declared.objects.Axis.{Axis}
 use Rattle.rules.specs.Events.{onEvent}
 use Rattle.rules.specs.Readings.{onReading}
 use Rattle.rules.specs.Results.{Result}
-use Rattle.rules.specs.State.{State}
-use Rattle.rules.specs.Time.{onTick}
+use Rattle.rules.specs.declared.parts.PdoCounts.{PdoCounts}
+use Rattle.rules.specs.State.{State, withCounts}
+use Rattle.rules.specs.Time.{elapsedAfter, timerRuns, onTick}
 use Rattle.device.proofs.Beside.{moved, tick-beside, reading-beside}
 use Rattle.device.proofs.Refused.{refused-with, not-refused, looked-at}
+use Rattle.device.specs.declared.Answer.{Answer}
+use Rattle.device.specs.declared.Device.{Device}
 use Rattle.device.specs.declared.Stepped.{Stepped}
-use Rattle.device.specs.Answers.{steppedOf}
+use Rattle.device.specs.Answers.{answering, steppedOf}
+use Rattle.device.specs.Seen.{alone, held}
 use Rattle.device.proofs.Device.event.Statement.{statement}
 use Rattle.device.proofs.Device.event.Tie as tie
 
@@ -32,6 +37,15 @@ module _ (e : Event) (bytes : List ℕ) (length : ℕ) (u : State) {r : Result} 
 
   is-reading : (a : Axis) (m : ℤ) → e ≡ Measured a m → r ≡ onReading a m u
   is-reading a m p = rw l (rw p)
+
+-- the counts of a tick, stored in the record, beside what it sends
+counted : (d : Device) (ms elapsed : ℕ) (counts : PdoCounts) (sent : Answer)
+    → elapsed ≡ elapsedAfter true (d .running .heartbeat) (d .heartbeat) ms
+    → counts ≡ record { elapsed = elapsedAfter (timerRuns (alone d)) (d .running .pdo .timer) (d .pdo .elapsed) ms; syncs = d .pdo .syncs }
+    → sent ≡ answering 0 (onTick ms (alone d) .sent)
+    → _≡_ {A = Stepped} (record { device = held (withCounts elapsed counts (alone d)); answer = sent }) (steppedOf (onTick ms (alone d)))
+unfolding onTick
+counted d ms elapsed counts sent p q r = rw (p, q, r)
 
 -- a step and a journal that are those of one result are those of an equal one
 like : {r s : Result} (t : Stepped) (j : List ℕ) → s ≡ r → (t ≡ steppedOf r) × (j ≡ r .state .journal) → (t ≡ steppedOf s) × (j ≡ s .state .journal)
@@ -63,6 +77,8 @@ event-spec =
     (λ c κs.
     let start = c .before .before .before .before .before .before in
     not-refused (start .args .self) (start .args .journal .now) _ (c .before .refusal2 .ensures) (c .if2 .left) .0)
+    (λ c κs. search needs)
+    (λ c κs. search needs)
     (λ c. search needs)
     (λ c κs. search needs)
     (λ c κs. search needs)
@@ -86,8 +102,9 @@ event-spec =
     let d = start .args .self in
     let j = start .args .journal .now in
     let given = asked .before .before .before .event2 .given in
+    let shown = counted d (given .0 .0) _ _ _ (c .before .elapsed-after .ensures) (c .ticked .ensures) (c .before .before .ticking .ensures) in
     let b = tick-beside d j (given .0 .0) in
-    like _ _ (is-tick (start .args .event) (start .args .bytes) (start .args .length) _ (looked-at d j _ (asked .before .refusal2 .ensures) (asked .if2 .left) (start .args .event) (start .args .bytes) (start .args .length)) (given .0 .0) (given .1)) (moved b (c .before .before .tick .ensures)))
+    like _ _ (is-tick (start .args .event) (start .args .bytes) (start .args .length) _ (looked-at d j _ (asked .before .refusal2 .ensures) (asked .if2 .left) (start .args .event) (start .args .bytes) (start .args .length)) (given .0 .0) (given .1)) (moved b shown))
     (λ c.
     let asked = c .before .before .before in
     let start = asked .before .before .before .before .before .before in
