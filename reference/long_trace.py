@@ -306,6 +306,14 @@ def segments(t):
             t.request(channel, first, index, sub, value)
             t.request(0, SEGMENT, 0x5555, 5, 0x55555555)
             t.request(1, SEGMENT)
+    segments_across_commands(t)
+    t.read(0, *NAME)
+    for length in range(1, 8):
+        t.frame(0x600 + t.node, bytes([ABORT, 0, 0, 0, 0, 0, 0])[:length])
+    t.request(0, SEGMENT)
+
+
+def segments_across_commands(t):
     for command in (0x01, 0x02, 0x80, 0x81, 0x82):
         t.read(0, *NAME)
         t.read(1, *NAME)
@@ -317,10 +325,6 @@ def segments(t):
         t.pre_operational()
         t.request(0, SEGMENT)
         t.request(1, TOGGLED)
-    t.read(0, *NAME)
-    for length in range(1, 8):
-        t.frame(0x600 + t.node, bytes([ABORT, 0, 0, 0, 0, 0, 0])[:length])
-    t.request(0, SEGMENT)
 
 
 def saves_until_full(t):
@@ -404,6 +408,9 @@ def angles(t):
             t.read(0, base + 3)
             t.read(0, base)
         t.tick(100)
+
+
+def zeros(t):
     t.power_on(0x0E)
     t.write(0, 0x6000, 0, 2, 1)
     for axis, base in (("X", 0x6010), ("Y", 0x6020)):
@@ -451,6 +458,9 @@ def ticks(t):
         t.tick(ms)
     t.pdo_timer(0)
     t.tick(65535)
+
+
+def writes_between_ticks(t):
     t.pdo_timer(100)
     t.tick(60)
     t.start()
@@ -640,7 +650,8 @@ def main():
     t = Trace(sys.stdout.buffer)
     for section in (before_power_on, sample, refused_power_ons, every_read, every_write_length,
                     every_written_value, first_bytes, unknown_objects, network_commands, segments,
-                    saves_until_full, readings, angles, ticks, syncs, frame_lengths, malformed_lines):
+                    saves_until_full, readings, angles, zeros, ticks, writes_between_ticks, syncs,
+                    frame_lengths, malformed_lines):
         section(t)
     chance = Chance(0x54494C54)
     t.power_on(0x01)

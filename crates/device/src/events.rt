@@ -68,7 +68,7 @@ impl Device {
     }
 
     // The record goes in by value and comes back, with the frames; the lent journal is written by a save or a load alone.
-    // What comes of an event is stored in the record itself: the compiled code then copies the record once.
+    // Each kind asks for the refusal and stores what comes of it in `self`: the record then stays one piece of memory.
     pub fn event(mut self, journal: &mut [u8], event: Event, bytes: [u8; 8], length: u8) -> Stepped
         ensures { λ r. ⌜ Answered self (now (journal .entry)) event bytes length r (now (journal .exit)) ⌝ }
     {
@@ -89,10 +89,7 @@ impl Device {
                 let period = self.running.heartbeat;
                 self.heartbeat = timers::elapsed_after(true, period, self.heartbeat, ms);
                 self.pdo = timers::ticked(self.network, self.running.pdo, self.pdo, ms);
-                Stepped {
-                    device: self,
-                    answer,
-                }
+                self.with(answer)
             }
             Event::Measured(axis, m) => {
                 let refusal = self.refusal(journal.len());

@@ -102,10 +102,7 @@ impl Device {
         self.one = states::ABSENT;
         self.two = states::ABSENT;
         let answer = Answer::one(frames::boot_up(self.node));
-        Stepped {
-            device: self,
-            answer,
-        }
+        self.with(answer)
     }
 
     fn enter(mut self, network: u8, counts: PdoCounts) -> Stepped
@@ -113,9 +110,16 @@ impl Device {
     {
         self.network = network;
         self.pdo = counts;
+        self.with(Answer::silent(0))
+    }
+
+    // The record as it is now, and the answer.
+    pub fn with(self, answer: Answer) -> Stepped
+        ensures { λ r. ⌜ r ≡ record { device = self; answer = answer } ⌝ }
+    {
         Stepped {
             device: self,
-            answer: Answer::silent(0),
+            answer,
         }
     }
 
@@ -123,10 +127,7 @@ impl Device {
     pub fn stay(self, refusal: u8) -> Stepped
         ensures { λ r. ⌜ r ≡ steppedOf (refused refusal (alone self)) ⌝ }
     {
-        Stepped {
-            device: self,
-            answer: Answer::silent(refusal),
-        }
+        self.with(Answer::silent(refusal))
     }
 
     fn command(self, command: u8) -> Stepped

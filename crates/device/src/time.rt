@@ -59,10 +59,7 @@ impl Device {
                 syncs: timers::syncs_after(transmission, self.pdo.syncs),
             };
             self.pdo = counts;
-            return Stepped {
-                device: self,
-                answer,
-            };
+            return self.with(answer);
         }
         self.stay(0)
     }

@@ -1,5 +1,5 @@
 -- `Device::event` meets its contract: refused with a number, or each arm's event.
-use mathlib.Core.Path.{_≡_, refl, subst⁻¹}
+use mathlib.Core.Path.{_≡_, refl, _∙_, subst⁻¹}
 use mathlib.Core.Bool.{true}
 use mathlib.Core.List.{List}
 use Prim.Native.Nat.{ℕ}
@@ -79,6 +79,7 @@ event-spec =
     not-refused (start .args .self) (start .args .journal .now) _ (c .before .refusal2 .ensures) (c .if2 .left) .0)
     (λ c κs. search needs)
     (λ c κs. search needs)
+    (λ c κs. search needs)
     (λ c. search needs)
     (λ c κs. search needs)
     (λ c κs. search needs)
@@ -97,12 +98,12 @@ event-spec =
     let given = asked .before .before .before .event .given in
     like _ _ (is-frame (start .args .event) (start .args .bytes) (start .args .length) _ (looked-at d j _ (asked .before .refusal .ensures) (asked .if1 .left) (start .args .event) (start .args .bytes) (start .args .length)) (given .0 .0) (given .1)) (c .before .before .receive .ensures))
     (λ c.
-    let asked = c .before .before .before in
+    let asked = c .before .before .before .before in
     let start = asked .before .before .before .before .before .before in
     let d = start .args .self in
     let j = start .args .journal .now in
     let given = asked .before .before .before .event2 .given in
-    let shown = counted d (given .0 .0) _ _ _ (c .before .elapsed-after .ensures) (c .ticked .ensures) (c .before .before .ticking .ensures) in
+    let shown = c .with .ensures ∙ counted d (given .0 .0) _ _ _ (c .before .before .elapsed-after .ensures) (c .before .ticked .ensures) (c .before .before .before .ticking .ensures) in
     let b = tick-beside d j (given .0 .0) in
     like _ _ (is-tick (start .args .event) (start .args .bytes) (start .args .length) _ (looked-at d j _ (asked .before .refusal2 .ensures) (asked .if2 .left) (start .args .event) (start .args .bytes) (start .args .length)) (given .0 .0) (given .1)) (moved b shown))
     (λ c.

@@ -14,6 +14,7 @@ sync-spec =
     (λ c κs. search needs)
     (λ c κs. search needs)
     (λ c κs. search needs)
-    (λ c. simp (c .syncs-after .ensures, c .before .timed .ensures, c .before .before .sync-due .ensures, sym (c .before .before .before .before .sync-counts .ensures) ∙ c .before .before .before .if1 .taken))
+    (λ c κs. search needs)
+    (λ c. simp (c .with .ensures, c .before .syncs-after .ensures, c .before .before .timed .ensures, c .before .before .before .sync-due .ensures, sym (c .before .before .before .before .before .sync-counts .ensures) ∙ c .before .before .before .before .if1 .taken))
     (λ c κs. search needs)
     (λ c. simp (c .stay .ensures, sym (c .before .before .sync-counts .ensures) ∙ c .before .if1 .left)))
