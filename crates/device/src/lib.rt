@@ -16,7 +16,9 @@ use rules::parts::Saves;
 use rules::settings::Settings;
 ghost use mathlib.Core.Path.{_≡_};
 ghost use mathlib.Core.List.{[], _∷_};
-ghost use Rattle.device.specs.Answers.{answering};
+ghost use Rattle.rules.specs.Results.{refused};
+ghost use Rattle.device.specs.Answers.{answering, steppedOf};
+ghost use Rattle.device.specs.Seen.{alone};
 
 // The refusal that power-on and an event share.
 const WRONG_LENGTH: u8 = 1;
@@ -87,5 +89,24 @@ impl Answer {
             first,
             second,
         }
+    }
+}
+
+impl Device {
+    // The record as it is now, and the answer.
+    pub fn with(self, answer: Answer) -> Stepped
+        ensures { λ r. ⌜ r ≡ record { device = self; answer = answer } ⌝ }
+    {
+        Stepped {
+            device: self,
+            answer,
+        }
+    }
+
+    // Nothing is sent, and the record stays.
+    pub fn stay(self, refusal: u8) -> Stepped
+        ensures { λ r. ⌜ r ≡ steppedOf (refused refusal (alone self)) ⌝ }
+    {
+        self.with(Answer::silent(refusal))
     }
 }

@@ -15,7 +15,7 @@ ghost use lib.Dec.{eqb};
 ghost use Rattle.rules.specs.Errors.{noErrors, entered};
 ghost use Rattle.rules.specs.Frames.{bootUp};
 ghost use Rattle.rules.specs.Network.{noReading, start, communicating, onCommand, onNetwork};
-ghost use Rattle.rules.specs.Results.{accepted, refused};
+ghost use Rattle.rules.specs.Results.{accepted};
 ghost use Rattle.rules.specs.State.{noCounts, withNetwork};
 ghost use Rattle.device.specs.Answers.{answering, steppedOf};
 ghost use Rattle.device.specs.Seen.{alone};
@@ -111,23 +111,6 @@ impl Device {
         self.network = network;
         self.pdo = counts;
         self.with(Answer::silent(0))
-    }
-
-    // The record as it is now, and the answer.
-    pub fn with(self, answer: Answer) -> Stepped
-        ensures { λ r. ⌜ r ≡ record { device = self; answer = answer } ⌝ }
-    {
-        Stepped {
-            device: self,
-            answer,
-        }
-    }
-
-    // Nothing is sent, and the record stays.
-    pub fn stay(self, refusal: u8) -> Stepped
-        ensures { λ r. ⌜ r ≡ steppedOf (refused refusal (alone self)) ⌝ }
-    {
-        self.with(Answer::silent(refusal))
     }
 
     fn command(self, command: u8) -> Stepped
