@@ -1,5 +1,5 @@
--- What the number of the refusal says of an event: refused with it, or looked at.
-use mathlib.Core.Path.{_≡_, refl}
+-- What the number of the refusal says of an event: refused with it, or looked at and done.
+use mathlib.Core.Path.{_≡_, refl, ap, _∙_, subst⁻¹}
 use mathlib.Core.Bool.{Bool, true, false, cond}
 use mathlib.Core.List.{List}
 use borrow.Author.Tests.{eqb-true}
@@ -14,6 +14,9 @@ use Rattle.rules.specs.Results.{Result, refused}
 use Rattle.rules.specs.State.{State}
 use Rattle.device.proofs.Beside.{range-beside}
 use Rattle.device.specs.declared.Device.{Device}
+use Rattle.device.specs.declared.Stepped.{Stepped}
+use Rattle.device.specs.Answers.{steppedOf}
+use Rattle.device.specs.Promise.{Answered}
 use Rattle.device.specs.Seen.{seen, alone, Ranged, refusalOf}
 
 -- by the two tests
@@ -28,17 +31,32 @@ by-none true true n p q = (refl, refl)
 by-none true false n p q = absurd (omega (arith, p, q))
 by-none false fits n p q = absurd (omega (arith, p, q))
 
-module _ (d : Device) (j : List ℕ) (n : ℕ) (p : n ≡ refusalOf (lengthOf j) (alone d)) where
-  pub refused-with : (n ≡ 0 → ⊥) → (e : Event) (bytes : List ℕ) (length : ℕ) → event e bytes length (seen d j) ≡ refused n (seen d j)
-  unfolding event
-  refused-with q e bytes length = rw (range-beside d j) (by-number (inRange (alone d)) (eqb (lengthOf j) (512 * d .saves .blocks)) n (onEvent e bytes length (seen d j)) (seen d j) p q)
+-- a step and a journal that are those of one result are those of an equal one
+like : {r s : Result} (t : Stepped) (j : List ℕ) → s ≡ r → (t ≡ steppedOf r) × (j ≡ r .state .journal) → (t ≡ steppedOf s) × (j ≡ s .state .journal)
+like t j e p = subst⁻¹ (λ (r : Result). (t ≡ steppedOf r) × (j ≡ r .state .journal)) e p
 
+module _ (d : Device) (j : List ℕ) (n : ℕ) (p : n ≡ refusalOf (lengthOf j) (alone d)) where
   passed : n ≡ 0 → (inRange (alone d) ≡ true) × (eqb (lengthOf j) (512 * d .saves .blocks) ≡ true)
   passed q = by-none (inRange (alone d)) (eqb (lengthOf j) (512 * d .saves .blocks)) n p q
 
   pub not-refused : n ≡ 0 → Ranged d × (lengthOf j ≡ 512 * d .saves .blocks)
   not-refused q = let t = passed q in (t .0, eqb-true (lengthOf j) (512 * d .saves .blocks) (t .1))
 
-  pub looked-at : n ≡ 0 → (e : Event) (bytes : List ℕ) (length : ℕ) → event e bytes length (seen d j) ≡ onEvent e bytes length (seen d j)
-  unfolding event
-  looked-at q e bytes length = let t = passed q in rw (range-beside d j, t .0, t .1)
+  module _ (e : Event) (bytes : List ℕ) (length : ℕ) where
+    refused-with : (n ≡ 0 → ⊥) → event e bytes length (seen d j) ≡ refused n (seen d j)
+    unfolding event
+    refused-with q = rw (range-beside d j) (by-number (inRange (alone d)) (eqb (lengthOf j) (512 * d .saves .blocks)) n (onEvent e bytes length (seen d j)) (seen d j) p q)
+
+    looked-at : n ≡ 0 → event e bytes length (seen d j) ≡ onEvent e bytes length (seen d j)
+    unfolding event
+    looked-at q = let t = passed q in rw (range-beside d j, t .0, t .1)
+
+    -- refused, and the record stays
+    pub turned-away : (t : Stepped) → (n ≡ 0 → ⊥) → t ≡ steppedOf (refused n (alone d)) → Answered d j e bytes length t j
+    turned-away t q s = like t j (refused-with q) (s, refl)
+
+    -- looked at, and done as the event's kind says
+    pub taken-as : (kind : Event) (t : Stepped) (j′ : List ℕ) → n ≡ 0 → e ≡ kind
+        → (t ≡ steppedOf (onEvent kind bytes length (seen d j))) × (j′ ≡ onEvent kind bytes length (seen d j) .state .journal)
+        → Answered d j e bytes length t j′
+    taken-as kind t j′ q k s = like t j′ (looked-at q ∙ ap (λ (f : Event). onEvent f bytes length (seen d j)) k) s

@@ -5,7 +5,7 @@ ghost use Rattle.rules.specs.Ranges.{inRange};
 ghost use Rattle.device.specs.Seen.{alone};
 
 impl Device {
-    // The first part that is out of its range ends the tests.
+    // The order of the parts is the cheapest of those that were counted.
     pub fn in_range(self) -> bool
         ensures { λ r. ⌜ r ≡ inRange (alone self) ⌝ }
     {
