@@ -22,10 +22,8 @@ static void send(const struct basintilt_frame *frame)
 
 static void send_all(const struct basintilt_answer *answer)
 {
-    if (answer->count > 0)
-        send(&answer->first);
-    if (answer->count > 1)
-        send(&answer->second);
+    for (int i = 0; i < answer->count; i++)
+        send(&answer->frames[i]);
 }
 
 static void show_blocks(void)

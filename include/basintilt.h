@@ -80,9 +80,13 @@ enum { BASINTILT_FARTHEST = 180000, BASINTILT_NO_ANGLE = -32768 };
 
 enum { BASINTILT_BLOCK_BYTES = 512, BASINTILT_MOST_BLOCKS = 128, BASINTILT_MOST_NODE = 47, BASINTILT_MOST_ERRORS = 5 };
 
+/* The service channels, and the most frames of one answer. */
+enum { BASINTILT_CHANNELS = 2 };
+#define BASINTILT_MOST_FRAMES 2
+
 /* 6011 to 6014, or 6021 to 6024. */
 struct basintilt_axis_settings {
-    uint8_t operating;
+    uint16_t operating;
     int16_t preset;
     int16_t offset;
     int16_t differential;
@@ -113,57 +117,60 @@ struct basintilt_identity {
 
 struct basintilt_pdo_counts {
     uint16_t elapsed;
-    uint8_t syncs;
+    uint16_t syncs;
+};
+
+/* A channel's segmented transfer: absent, at the start or after seven bytes. */
+struct basintilt_transfer {
+    uint8_t stage;
 };
 
 /* What the record keeps of the journal; spoiled is 1 or 0. */
 struct basintilt_saves {
     uint16_t blocks;
     uint16_t filled;
-    uint8_t spoiled;
+    uint16_t spoiled;
     struct basintilt_settings stored;
 };
 
 /* The error list, newest first; 0 past its length. */
 struct basintilt_errors {
-    uint8_t length;
+    uint16_t length;
     uint16_t codes[BASINTILT_MOST_ERRORS];
 };
 
 /* An axis and its last good reading, in thousandths of a degree. */
 struct basintilt_reading {
-    uint8_t state;
+    uint32_t state;
     int32_t m;
 };
 
 struct basintilt_device {
-    uint8_t node;
-    uint8_t network;
-    uint8_t one;
-    uint8_t two;
+    struct basintilt_identity identity;
+    struct basintilt_reading x;
+    struct basintilt_reading y;
     uint16_t heartbeat;
     struct basintilt_pdo_counts pdo;
-    struct basintilt_identity identity;
     struct basintilt_saves saves;
     struct basintilt_settings running;
     struct basintilt_errors errors;
-    struct basintilt_reading x;
-    struct basintilt_reading y;
+    uint8_t node;
+    uint8_t network;
+    struct basintilt_transfer transfers[BASINTILT_CHANNELS];
 };
 
 /* A sent frame; the bytes past its length are 0. */
 struct basintilt_frame {
     uint16_t identifier;
-    uint8_t length;
+    uint16_t length;
     uint8_t bytes[8];
 };
 
-/* The refusal, and 0 to 2 frames; the frames past the count are all zero. */
+/* The refusal, and as many frames as the count says, in their order; those past it are all zero. */
 struct basintilt_answer {
-    uint8_t refusal;
-    uint8_t count;
-    struct basintilt_frame first;
-    struct basintilt_frame second;
+    uint16_t refusal;
+    uint16_t count;
+    struct basintilt_frame frames[BASINTILT_MOST_FRAMES];
 };
 
 struct basintilt_stepped {
@@ -181,26 +188,73 @@ struct basintilt_happening {
     uint8_t bytes[8];
 };
 
-_Static_assert(sizeof(struct basintilt_axis_settings) == 8, "axis settings");
-_Static_assert(sizeof(struct basintilt_pdo_settings) == 4, "PDO settings");
-_Static_assert(sizeof(struct basintilt_settings) == 24, "settings");
-_Static_assert(offsetof(struct basintilt_settings, x) == 8, "settings of X");
-_Static_assert(sizeof(struct basintilt_saves) == 30, "saves");
-_Static_assert(offsetof(struct basintilt_saves, stored) == 6, "stored settings");
-_Static_assert(sizeof(struct basintilt_errors) == 12, "error list");
-_Static_assert(sizeof(struct basintilt_reading) == 8, "reading");
-_Static_assert(sizeof(struct basintilt_device) == 112, "device record");
-_Static_assert(offsetof(struct basintilt_device, pdo) == 6, "PDO counts");
-_Static_assert(offsetof(struct basintilt_device, identity) == 12, "identity");
-_Static_assert(offsetof(struct basintilt_device, saves) == 28, "saves in the record");
-_Static_assert(offsetof(struct basintilt_device, running) == 58, "running settings");
-_Static_assert(offsetof(struct basintilt_device, errors) == 82, "error list in the record");
-_Static_assert(offsetof(struct basintilt_device, x) == 96, "axis X");
-_Static_assert(sizeof(struct basintilt_frame) == 12, "frame");
-_Static_assert(sizeof(struct basintilt_answer) == 26, "answer");
-_Static_assert(sizeof(struct basintilt_stepped) == 140, "stepped");
-_Static_assert(offsetof(struct basintilt_stepped, answer) == 112, "answer behind the record");
-_Static_assert(sizeof(struct basintilt_happening) == 20, "happening");
+/* No struct has a padding byte: each is as long as its fields together, and each field stands where the library has it. */
+#define BASINTILT_BYTES(part, field) sizeof(((struct basintilt_##part *)0)->field)
+#define BASINTILT_LONG(part, bytes, fields) \
+    _Static_assert(sizeof(struct basintilt_##part) == (bytes) && (bytes) == (fields), "length of basintilt_" #part)
+#define BASINTILT_AT(part, field, place) \
+    _Static_assert(offsetof(struct basintilt_##part, field) == (place), "place of " #field " in basintilt_" #part)
+
+BASINTILT_LONG(axis_settings, 8, BASINTILT_BYTES(axis_settings, operating) + BASINTILT_BYTES(axis_settings, preset)
+               + BASINTILT_BYTES(axis_settings, offset) + BASINTILT_BYTES(axis_settings, differential));
+BASINTILT_AT(axis_settings, operating, 0); BASINTILT_AT(axis_settings, preset, 2); BASINTILT_AT(axis_settings, offset, 4);
+BASINTILT_AT(axis_settings, differential, 6);
+
+BASINTILT_LONG(pdo_settings, 4, BASINTILT_BYTES(pdo_settings, on) + BASINTILT_BYTES(pdo_settings, transmission)
+               + BASINTILT_BYTES(pdo_settings, timer));
+BASINTILT_AT(pdo_settings, on, 0); BASINTILT_AT(pdo_settings, transmission, 1); BASINTILT_AT(pdo_settings, timer, 2);
+
+BASINTILT_LONG(settings, 24, BASINTILT_BYTES(settings, heartbeat) + BASINTILT_BYTES(settings, pdo)
+               + BASINTILT_BYTES(settings, resolution) + BASINTILT_BYTES(settings, x) + BASINTILT_BYTES(settings, y));
+BASINTILT_AT(settings, heartbeat, 0); BASINTILT_AT(settings, pdo, 2); BASINTILT_AT(settings, resolution, 6); BASINTILT_AT(settings, x, 8);
+BASINTILT_AT(settings, y, 16);
+
+BASINTILT_LONG(identity, 16, BASINTILT_BYTES(identity, vendor) + BASINTILT_BYTES(identity, product) + BASINTILT_BYTES(identity, revision)
+               + BASINTILT_BYTES(identity, serial));
+BASINTILT_AT(identity, vendor, 0); BASINTILT_AT(identity, product, 4); BASINTILT_AT(identity, revision, 8);
+BASINTILT_AT(identity, serial, 12);
+
+BASINTILT_LONG(pdo_counts, 4, BASINTILT_BYTES(pdo_counts, elapsed) + BASINTILT_BYTES(pdo_counts, syncs));
+BASINTILT_AT(pdo_counts, elapsed, 0); BASINTILT_AT(pdo_counts, syncs, 2);
+
+BASINTILT_LONG(transfer, 1, BASINTILT_BYTES(transfer, stage));
+BASINTILT_AT(transfer, stage, 0);
+
+BASINTILT_LONG(saves, 30, BASINTILT_BYTES(saves, blocks) + BASINTILT_BYTES(saves, filled) + BASINTILT_BYTES(saves, spoiled)
+               + BASINTILT_BYTES(saves, stored));
+BASINTILT_AT(saves, blocks, 0); BASINTILT_AT(saves, filled, 2); BASINTILT_AT(saves, spoiled, 4); BASINTILT_AT(saves, stored, 6);
+
+BASINTILT_LONG(errors, 12, BASINTILT_BYTES(errors, length) + BASINTILT_BYTES(errors, codes));
+BASINTILT_AT(errors, length, 0); BASINTILT_AT(errors, codes, 2);
+
+BASINTILT_LONG(reading, 8, BASINTILT_BYTES(reading, state) + BASINTILT_BYTES(reading, m));
+BASINTILT_AT(reading, state, 0); BASINTILT_AT(reading, m, 4);
+
+BASINTILT_LONG(device, 108, BASINTILT_BYTES(device, identity) + BASINTILT_BYTES(device, x) + BASINTILT_BYTES(device, y)
+               + BASINTILT_BYTES(device, heartbeat) + BASINTILT_BYTES(device, pdo) + BASINTILT_BYTES(device, saves)
+               + BASINTILT_BYTES(device, running) + BASINTILT_BYTES(device, errors) + BASINTILT_BYTES(device, node)
+               + BASINTILT_BYTES(device, network) + BASINTILT_BYTES(device, transfers));
+BASINTILT_AT(device, identity, 0); BASINTILT_AT(device, x, 16); BASINTILT_AT(device, y, 24); BASINTILT_AT(device, heartbeat, 32);
+BASINTILT_AT(device, pdo, 34); BASINTILT_AT(device, saves, 38); BASINTILT_AT(device, running, 68); BASINTILT_AT(device, errors, 92);
+BASINTILT_AT(device, node, 104); BASINTILT_AT(device, network, 105); BASINTILT_AT(device, transfers, 106);
+
+BASINTILT_LONG(frame, 12, BASINTILT_BYTES(frame, identifier) + BASINTILT_BYTES(frame, length) + BASINTILT_BYTES(frame, bytes));
+BASINTILT_AT(frame, identifier, 0); BASINTILT_AT(frame, length, 2); BASINTILT_AT(frame, bytes, 4);
+
+BASINTILT_LONG(answer, 28, BASINTILT_BYTES(answer, refusal) + BASINTILT_BYTES(answer, count) + BASINTILT_BYTES(answer, frames));
+BASINTILT_AT(answer, refusal, 0); BASINTILT_AT(answer, count, 2); BASINTILT_AT(answer, frames, 4);
+
+BASINTILT_LONG(stepped, 136, BASINTILT_BYTES(stepped, device) + BASINTILT_BYTES(stepped, answer));
+BASINTILT_AT(stepped, device, 0); BASINTILT_AT(stepped, answer, 108);
+
+BASINTILT_LONG(happening, 20, BASINTILT_BYTES(happening, kind) + BASINTILT_BYTES(happening, length) + BASINTILT_BYTES(happening, ms)
+               + BASINTILT_BYTES(happening, identifier) + BASINTILT_BYTES(happening, m) + BASINTILT_BYTES(happening, bytes));
+BASINTILT_AT(happening, kind, 0); BASINTILT_AT(happening, length, 1); BASINTILT_AT(happening, ms, 2);
+BASINTILT_AT(happening, identifier, 4); BASINTILT_AT(happening, m, 8); BASINTILT_AT(happening, bytes, 12);
+
+#undef BASINTILT_BYTES
+#undef BASINTILT_LONG
+#undef BASINTILT_AT
 
 /* The record that the journal gives, and boot-up; a refused power-on gives the all-zero record. The journal is only read. */
 struct basintilt_stepped basintilt_power_on(uint32_t node, struct basintilt_identity identity, const uint8_t *journal, size_t journal_length);

@@ -3,28 +3,11 @@
 
 int printf(const char *, ...);
 void *memset(void *, int, size_t);
+int memcmp(const void *, const void *, size_t);
 
 static uint8_t journal[2 * BASINTILT_BLOCK_BYTES];
 static struct basintilt_device device;
 static int failures;
-
-static void show(struct basintilt_answer answer)
-{
-    const struct basintilt_frame *frames[2] = {&answer.first, &answer.second};
-    if (answer.refusal != BASINTILT_ACCEPTED)
-        printf("R %d\n", answer.refusal);
-    for (int i = 0; i < answer.count; i++) {
-        printf("%03X ", frames[i]->identifier);
-        for (int k = 0; k < frames[i]->length; k++)
-            printf("%02X", frames[i]->bytes[k]);
-        printf("\n");
-    }
-}
-
-static void happens(struct basintilt_happening happening)
-{
-    show(basintilt_event(&device, journal, sizeof journal, happening));
-}
 
 static void check(int holds, const char *what)
 {
@@ -32,6 +15,41 @@ static void check(int holds, const char *what)
         failures++;
         printf("FAILED: %s\n", what);
     }
+}
+
+static int all_zero(const void *from, const void *to)
+{
+    const uint8_t *at = from;
+    while (at != to && *at == 0)
+        at++;
+    return at == to;
+}
+
+static void show(struct basintilt_answer answer)
+{
+    if (answer.refusal != BASINTILT_ACCEPTED)
+        printf("R %d\n", answer.refusal);
+    for (int i = 0; i < answer.count; i++) {
+        const struct basintilt_frame *frame = &answer.frames[i];
+        printf("%03X ", frame->identifier);
+        for (int k = 0; k < frame->length; k++)
+            printf("%02X", frame->bytes[k]);
+        printf("\n");
+        check(all_zero(frame->bytes + frame->length, frame + 1), "the bytes past a frame's length are 0");
+    }
+    check(all_zero(answer.frames + answer.count, &answer + 1), "the frames past the count are all zero");
+}
+
+static void happens(struct basintilt_happening happening)
+{
+    show(basintilt_event(&device, journal, sizeof journal, happening));
+}
+
+static void is_refused(void)
+{
+    struct basintilt_device lent = device;
+    happens((struct basintilt_happening){.kind = BASINTILT_TICK, .ms = 1});
+    check(memcmp(&device, &lent, sizeof lent) == 0, "each byte of a refused record is as it was");
 }
 
 int main(void)
@@ -53,12 +71,14 @@ int main(void)
     check(basintilt_block(journal + 512, 512, 2) == BASINTILT_BLANK, "the next block is blank still");
     check(device.saves.filled == 1 && device.identity.serial == 4 && device.x.m == 12345, "the record is updated");
     happens((struct basintilt_happening){.kind = 99, .identifier = 0xFFFF, .length = 200});
+    device.x.state += 0x100; /* the low byte alone would be in range */
+    is_refused();
+    device.x.state -= 0x100;
     device.node = 48;
-    happens((struct basintilt_happening){.kind = BASINTILT_TICK, .ms = 1});
-    check(device.node == 48, "a refused record is untouched");
+    is_refused();
     stepped = basintilt_power_on(48, (struct basintilt_identity){1, 2, 3, 4}, journal, sizeof journal);
     show(stepped.answer);
-    check(stepped.device.node == 0 && stepped.device.identity.vendor == 0, "a refused power-on gives the all-zero record");
+    check(all_zero(&stepped.device, &stepped.device + 1), "a refused power-on gives the all-zero record");
     printf("%d failures\n", failures);
     return failures;
 }

@@ -41,6 +41,16 @@ static bool fresh_sensor(void)
            && make_event(reading_of(BASINTILT_READING_Y, -54321));
 }
 
+/* The same with a SYNC counted and a full error list, so that more of its fields are not 0. */
+static bool busy_sensor(void)
+{
+    bool same = fresh_sensor() && make_event(request(NODE, 0, 0x2F, 0x1800, 2, BASINTILT_MOST_SYNCHRONOUS)) && make_event(sync_frame());
+    for (unsigned i = 0; i < BASINTILT_MOST_ERRORS && same; i++) {
+        same = make_event(reading_of(BASINTILT_READING_X, BASINTILT_FARTHEST + 1)) && make_event(reading_of(BASINTILT_READING_X, 12345));
+    }
+    return same;
+}
+
 /* Every shape on every class of length: power-on, a save, a load, both resets, power-on again. */
 static bool every_journal(void)
 {
@@ -204,8 +214,37 @@ static bool every_type(void)
     return same;
 }
 
+static bool write_number(uint32_t at, uint32_t number)
+{
+    return make_call((struct call){.kind = FIELD_WRITTEN, .written = {at, number}});
+}
+
+/* An event that does nothing, over a field that is changed and put back. */
+static bool lend_changed(uint32_t at, uint32_t number)
+{
+    uint32_t before = (uint32_t)field_value(&pair.device, &fields[at]);
+    return write_number(at, number) && make_event((struct basintilt_happening){.kind = UINT8_MAX}) && write_number(at, before);
+}
+
+/* Every bit of the record turned, and in every field every number of a byte with and without one bit more. */
+static bool every_field(void)
+{
+    bool same = busy_sensor();
+    for (uint32_t at = 0; at < FIELDS && same; at++) {
+        uint32_t before = (uint32_t)field_value(&pair.device, &fields[at]);
+        for (uint32_t bit = 0; bit < 8u * fields[at].size && same; bit++) {
+            same = lend_changed(at, before ^ 1u << bit);
+        }
+        for (uint32_t number = 0; number < 0x200 && same; number++) {
+            same = lend_changed(at, number);
+        }
+    }
+    return same;
+}
+
 bool built_cases(void)
 {
     return every_journal() && every_bit_and_stop() && every_number() && every_query() && every_length() && every_node()
-           && every_head() && every_command() && every_first_byte() && every_object() && every_value() && every_type();
+           && every_head() && every_command() && every_first_byte() && every_object() && every_value() && every_type()
+           && every_field();
 }

@@ -1,6 +1,8 @@
 /* Counts what was reached, so that the comparison cannot pass empty. */
 #include "counts.h"
 
+#include <string.h>
+
 struct counts counts;
 
 const uint32_t abort_codes[ABORTS] = {
@@ -79,19 +81,33 @@ static unsigned length_class(uint32_t length)
     return blocks <= 2 ? blocks - 1 : blocks < 127 ? 2 : 3;
 }
 
+/* A refused record that is the last accepted one but for one field, and perhaps only for bytes that the reference has not. */
+static void count_refused_field(const struct basintilt_device *device, const struct basintilt_device *accepted, unsigned at)
+{
+    const struct field *field = &fields[at];
+    struct basintilt_device made = *accepted;
+    int64_t turned = field_value(device, field) ^ field_value(accepted, field);
+    write_field(&made, field, (uint32_t)field_value(device, field));
+    if (memcmp(&made, device, sizeof made) == 0) {
+        counts.fields_refused[at]++;
+        counts.fields_refused_as_wide[at] += turned % (INT64_C(1) << 8 * field->size_in_reference) == 0;
+    }
+}
+
 /* A power-on just behind the making of its journal; an event refused just behind the writing of a field. */
-static void count_with_last(const struct call *call, unsigned refusal)
+static void count_with_last(const struct pair *pair, const struct call *call)
 {
     static struct call last;
-    static bool last_in_range;
-    if (call->kind == POWER_ON && refusal == 0 && last.kind == JOURNAL_MADE && last.length == call->length) {
+    static struct basintilt_device accepted;
+    unsigned refusal = pair->answer.refusal;
+    if (call->kind == POWER_ON && refusal == BASINTILT_ACCEPTED && last.kind == JOURNAL_MADE && last.length == call->length) {
         counts.journals[last.made.shape * LENGTH_CLASSES + length_class(call->length)]++;
     }
-    if (call->kind == EVENT && refusal == BASINTILT_OUT_OF_RANGE && last.kind == FIELD_WRITTEN && last_in_range) {
-        counts.fields_refused[last.written.at]++;
+    if (call->kind == EVENT && refusal == BASINTILT_OUT_OF_RANGE && last.kind == FIELD_WRITTEN) {
+        count_refused_field(&pair->device, &accepted, last.written.at);
     }
-    if (call->kind == EVENT || call->kind == POWER_ON) {
-        last_in_range = refusal != BASINTILT_OUT_OF_RANGE;
+    if ((call->kind == EVENT || call->kind == POWER_ON) && refusal == BASINTILT_ACCEPTED) {
+        accepted = pair->device;
     }
     last = *call;
 }
@@ -100,7 +116,7 @@ void count_call(const struct pair *pair, const struct call *call)
 {
     const struct basintilt_answer *answer = &pair->answer;
     counts.calls[call->kind]++;
-    count_with_last(call, answer->refusal);
+    count_with_last(pair, call);
     if (call->kind == BLOCK_QUERY) {
         counts.queries[pair->block_answer % 3]++;
     }
@@ -111,11 +127,8 @@ void count_call(const struct pair *pair, const struct call *call)
         counts.events[call->happening.kind < EVENT_KINDS ? call->happening.kind : EVENT_KINDS - 1]++;
     }
     (call->kind == EVENT ? counts.event_refusals : counts.power_on_refusals)[answer->refusal % REFUSALS]++;
-    counts.frames_at_once[answer->count % 3]++;
-    if (answer->count > 0) {
-        count_frame(call, &answer->first, pair->device.node);
-    }
-    if (answer->count > 1) {
-        count_frame(call, &answer->second, pair->device.node);
+    counts.frames_at_once[answer->count % (BASINTILT_MOST_FRAMES + 1)]++;
+    for (unsigned i = 0; i < answer->count && i < BASINTILT_MOST_FRAMES; i++) {
+        count_frame(call, &answer->frames[i], pair->device.node);
     }
 }

@@ -6,7 +6,7 @@
 #include "objects.h"
 #include "pair.h"
 
-enum { CHANNELS = 2, REFUSALS = 5, EVENT_KINDS = 6, ABORTS = 13, REPLIES = 8, LENGTH_CLASSES = 4 };
+enum { CHANNELS = BASINTILT_CHANNELS, REFUSALS = 5, EVENT_KINDS = 6, ABORTS = 13, REPLIES = 8, LENGTH_CLASSES = 4 };
 
 enum {
     BOOT_UP_AT_POWER_ON,
@@ -28,7 +28,7 @@ struct counts {
     uint64_t events[EVENT_KINDS];
     uint64_t power_on_refusals[REFUSALS];
     uint64_t event_refusals[REFUSALS];
-    uint64_t frames_at_once[3];
+    uint64_t frames_at_once[BASINTILT_MOST_FRAMES + 1];
     uint64_t sent[SENT_KINDS];
     uint64_t replies[CHANNELS * REPLIES];
     uint64_t aborts[CHANNELS * ABORTS];
@@ -39,6 +39,7 @@ struct counts {
     uint64_t queries[3];
     uint64_t journals[JOURNAL_SHAPES * LENGTH_CLASSES];
     uint64_t fields_refused[FIELDS];
+    uint64_t fields_refused_as_wide[FIELDS];
 };
 
 extern struct counts counts;

@@ -5,28 +5,40 @@
 #include "basintilt.h"
 #include "sensor.h"
 
+#include <stdbool.h>
+
 struct field {
     const char *name;
     uint16_t in_library;
     uint16_t in_reference;
-    uint8_t size; /* 1, 2 or 4 bytes */
+    uint8_t size;              /* in the library: 1, 2 or 4 bytes */
+    uint8_t size_in_reference; /* as many or fewer */
     uint8_t is_signed;
 };
 
 enum { FIELDS = 50 };
 
+/* In the order of the library's record. */
 extern const struct field fields[];
 
-int64_t field_of_library(const struct basintilt_device *device, const struct field *field);
-int64_t field_of_reference(const struct reference_record *record, const struct field *field);
+/* Whether the fields follow each other without a gap from the library's first byte to its last. */
+bool fields_are_all_bytes(void);
 
-/* Writes the low bytes of a number into one field of both records. */
-void write_field(struct basintilt_device *device, struct reference_record *record, const struct field *field, uint32_t number);
+int64_t field_value(const struct basintilt_device *device, const struct field *field);
 
-/* Gives the reference the record that the library has. */
-void copy_record(struct reference_record *record, const struct basintilt_device *device);
+/* Writes the low bytes of a number into one field. */
+void write_field(struct basintilt_device *device, const struct field *field, uint32_t number);
 
-/* The first field in which the two differ, or NULL. */
-const struct field *differing_field(const struct basintilt_device *device, const struct reference_record *record);
+/* Whether the library's field holds numbers that are too wide for the reference's: all of them are out of range. */
+bool is_wider(const struct field *field);
+
+/* Gives the reference the record that the library has; false where a number is too wide for its field there. */
+bool give_record(struct reference_record *record, const struct basintilt_device *device);
+
+/* The reference's record in the library's bytes. */
+struct basintilt_device record_of(const struct reference_record *record);
+
+/* The field that a byte of the library's record is part of. */
+const struct field *field_at(unsigned byte);
 
 #endif

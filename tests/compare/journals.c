@@ -49,8 +49,8 @@ void make_block(struct chance *chance, uint8_t *block, uint32_t place)
     block[9] = settings.pdo.transmission;
     put(block + 10, settings.pdo.timer, 2);
     put(block + 12, settings.resolution, 2);
-    block[14] = settings.x.operating;
-    block[15] = settings.y.operating;
+    block[14] = (uint8_t)settings.x.operating;
+    block[15] = (uint8_t)settings.y.operating;
     put_angles(block + 16, &settings.x);
     put_angles(block + 22, &settings.y);
     seal_block(block);

@@ -33,12 +33,20 @@ static bool compare(uint64_t events, uint64_t seed)
     return show_counts();
 }
 
-/* The reference is made to say something wrong: the difference must be seen, and shown by a few calls. */
+/* Something is made wrong: the difference must be seen, and shown by a few calls. */
 static bool sees_fault(enum fault fault)
 {
     bool same = true;
-    static const char *const names[FAULTS] = {"nothing", "a frame's byte", "a field", "a byte of the journal"};
-    printf("the reference is wrong on purpose in %s: ", names[fault]);
+    static const char *const names[FAULTS] = {
+        [WRONG_FRAME_BYTE] = "the reference says another byte of a frame",
+        [WRONG_BYTE_PAST_LENGTH] = "the reference says a byte past a frame's length",
+        [WRONG_BYTE_PAST_COUNT] = "the reference says a byte past the count of frames",
+        [WRONG_FIELD] = "the reference says another field",
+        [WRONG_HIGH_BYTE] = "the reference says another high byte of a field",
+        [WRONG_JOURNAL_BYTE] = "the reference writes another byte of the journal",
+        [REFUSED_BUT_CHANGED] = "both sensors change a record that they refuse",
+    };
+    printf("wrong on purpose: %s: ", names[fault]);
     pair.fault = fault;
     for (uint64_t seed = 0; same && seed < 1000; seed++) {
         same = wander(seed);
@@ -53,8 +61,10 @@ static bool sees_fault(enum fault fault)
 
 int main(int count, char **words)
 {
-    bool passed = true;
-    if (count == 2 && strcmp(words[1], "break") == 0) {
+    bool passed = fields_are_all_bytes();
+    if (!passed) {
+        printf("FAILED: a byte of the record is in no field\n");
+    } else if (count == 2 && strcmp(words[1], "break") == 0) {
         for (unsigned fault = NO_FAULT + 1; fault < FAULTS; fault++) {
             passed = sees_fault((enum fault)fault) && passed;
         }

@@ -6,6 +6,8 @@
 
 #include <string.h>
 
+_Static_assert((int)REFERENCE_FRAMES == BASINTILT_MOST_FRAMES, "frames of an answer");
+
 void begin_pair(struct pair *pair)
 {
     enum fault fault = pair->fault;
@@ -15,14 +17,33 @@ void begin_pair(struct pair *pair)
     pair->fault = fault;
 }
 
+/* Field by field into zeroed memory, so that each byte of the library's answer has one that it must be. */
+static struct basintilt_answer answer_of(const struct reference_answer *said)
+{
+    struct basintilt_answer answer;
+    memset(&answer, 0, sizeof answer);
+    answer.refusal = said->refusal;
+    answer.count = said->count;
+    for (unsigned i = 0; i < BASINTILT_MOST_FRAMES; i++) {
+        answer.frames[i].identifier = said->frames[i].identifier;
+        answer.frames[i].length = said->frames[i].length;
+        memcpy(answer.frames[i].bytes, said->frames[i].bytes, sizeof answer.frames[i].bytes);
+    }
+    return answer;
+}
+
 static void power_on(struct pair *pair, const struct call *call)
 {
     struct basintilt_identity identity = call->power_on.identity;
     struct reference_identity same = {identity.vendor, identity.product, identity.revision, identity.serial};
     struct basintilt_stepped stepped = basintilt_power_on(call->power_on.node, identity, pair->journal, call->length);
+    struct reference_answer said;
+    reference_power_on(&pair->record, call->power_on.node, same, pair->reference_journal, call->length, &said);
     pair->device = stepped.device;
     pair->answer = stepped.answer;
-    reference_power_on(&pair->record, call->power_on.node, same, pair->reference_journal, call->length, &pair->reference_answer);
+    pair->expected_device = record_of(&pair->record);
+    pair->expected_answer = answer_of(&said);
+    pair->too_wide = false;
 }
 
 /* A kind that is none stays none for the reference. */
@@ -58,25 +79,44 @@ static struct reference_event same_event(const struct basintilt_happening *happe
 
 static void make_wrong(struct pair *pair)
 {
-    struct reference_sent *frame = &pair->reference_answer.frames[0];
+    struct basintilt_frame *frame = &pair->expected_answer.frames[0];
     bool reads_y = frame->bytes[0] == 0x4B && frame->bytes[1] == 0x20 && frame->bytes[2] == 0x60;
     bool saves = frame->bytes[0] == 0x60 && frame->bytes[1] == 0x10 && frame->bytes[2] == 0x10;
     if (pair->fault == WRONG_FRAME_BYTE && reads_y) {
         frame->bytes[7] ^= 1;
     }
+    if (pair->fault == WRONG_BYTE_PAST_LENGTH && frame->length == 1) {
+        frame->bytes[7] ^= 1;
+    }
+    if (pair->fault == WRONG_BYTE_PAST_COUNT && reads_y) {
+        pair->expected_answer.frames[1].bytes[7] ^= 1;
+    }
     if (pair->fault == WRONG_FIELD && saves) {
-        pair->record.saves.stored.axes[REFERENCE_Y].differential ^= 1;
+        pair->expected_device.saves.stored.y.differential ^= 1;
+    }
+    if (pair->fault == WRONG_HIGH_BYTE && reads_y) {
+        pair->expected_device.y.state ^= 0x01000000;
     }
     if (pair->fault == WRONG_JOURNAL_BYTE && saves) {
         pair->reference_journal[BASINTILT_BLOCK_BYTES * pair->record.saves.filled - 1] ^= 1;
     }
+    if (pair->fault == REFUSED_BUT_CHANGED && pair->answer.refusal == BASINTILT_WRONG_FRAME) {
+        pair->device.identity.serial ^= 1;
+        pair->expected_device.identity.serial ^= 1;
+    }
 }
 
+/* A number too wide for the reference is out of range: it is refused with 3, and stays. */
 static void event(struct pair *pair, const struct call *call)
 {
     struct reference_event same = same_event(&call->happening);
+    struct reference_answer said = {.refusal = REFERENCE_BAD_RECORD};
     pair->answer = basintilt_event(&pair->device, pair->journal, call->length, call->happening);
-    reference_event(&pair->record, pair->reference_journal, call->length, &same, &pair->reference_answer);
+    if (!pair->too_wide) {
+        reference_event(&pair->record, pair->reference_journal, call->length, &same, &said);
+        pair->expected_device = record_of(&pair->record);
+    }
+    pair->expected_answer = answer_of(&said);
     make_wrong(pair);
 }
 
@@ -84,6 +124,13 @@ static void query(struct pair *pair, const struct call *call)
 {
     pair->block_answer = basintilt_block(pair->journal + call->query.at, call->length, call->query.place);
     pair->reference_block_answer = reference_block(pair->reference_journal + call->query.at, call->length, call->query.place);
+}
+
+/* Both sensors get the record that the library has now. */
+static void share_record(struct pair *pair)
+{
+    pair->expected_device = pair->device;
+    pair->too_wide = !give_record(&pair->record, &pair->device);
 }
 
 static void do_call(struct pair *pair, const struct call *call)
@@ -107,73 +154,109 @@ static void do_call(struct pair *pair, const struct call *call)
         break;
     case RECORD_MADE:
         pair->device = make_record((enum record_shape)call->made.shape, call->made.seed);
-        copy_record(&pair->record, &pair->device);
+        share_record(pair);
         break;
     default:
-        write_field(&pair->device, &pair->record, &fields[call->written.at], call->written.number);
+        write_field(&pair->device, &fields[call->written.at], call->written.number);
+        share_record(pair);
         break;
     }
 }
 
-#define AGREE(name, number, same)                                            \
-    if ((number) != (same)) {                                                \
-        return (struct difference){(name), -1, (int64_t)(number), (int64_t)(same)}; \
-    }
-
-static struct difference compare_bytes(const char *what, const uint8_t *bytes, const uint8_t *same, unsigned length)
+static unsigned first_difference(const void *bytes, const void *same)
 {
     unsigned at = 0;
-    if (memcmp(bytes, same, length) == 0) {
-        return (struct difference){0};
-    }
-    while (bytes[at] == same[at]) {
+    while (((const uint8_t *)bytes)[at] == ((const uint8_t *)same)[at]) {
         at++;
     }
-    return (struct difference){what, (int)at, bytes[at], same[at]};
+    return at;
 }
 
-/* The frames past the count are all zero in both, and so are the bytes past a frame's length. */
-static struct difference compare_frames(const struct basintilt_frame *frame, const struct reference_sent *same)
+static struct difference compare_journals(const struct pair *pair)
 {
-    AGREE("a frame's identifier", frame->identifier, same->identifier)
-    AGREE("a frame's length", frame->length, same->length)
-    return compare_bytes("a frame's byte", frame->bytes, same->bytes, sizeof frame->bytes);
-}
-
-static struct difference compare_answers(const struct pair *pair)
-{
-    struct difference difference;
-    AGREE("refusal", pair->answer.refusal, pair->reference_answer.refusal)
-    AGREE("count of frames", pair->answer.count, pair->reference_answer.count)
-    AGREE("answer to the block query", pair->block_answer, pair->reference_block_answer)
-    difference = compare_frames(&pair->answer.first, &pair->reference_answer.frames[0]);
-    if (difference.what != NULL) {
-        return difference;
-    }
-    return compare_frames(&pair->answer.second, &pair->reference_answer.frames[1]);
-}
-
-static struct difference compare_records(const struct pair *pair)
-{
-    const struct field *field = differing_field(&pair->device, &pair->record);
-    if (field == NULL) {
+    unsigned at;
+    if (memcmp(pair->journal, pair->reference_journal, pair->used + GUARD) == 0) {
         return (struct difference){0};
     }
-    return (struct difference){field->name, -1, field_of_library(&pair->device, field), field_of_reference(&pair->record, field)};
+    at = first_difference(pair->journal, pair->reference_journal);
+    return (struct difference){"the journal's byte", (int)at, pair->journal[at], pair->reference_journal[at]};
+}
+
+#define PART(path) {#path ", byte", offsetof(struct basintilt_answer, path)}
+
+static struct difference compare_answers(const struct basintilt_answer *answer, const struct basintilt_answer *same)
+{
+    static const struct {
+        const char *name;
+        unsigned at;
+    } parts[] = {
+        PART(refusal),
+        PART(count),
+        PART(frames[0].identifier),
+        PART(frames[0].length),
+        PART(frames[0].bytes),
+        PART(frames[1].identifier),
+        PART(frames[1].length),
+        PART(frames[1].bytes),
+    };
+    unsigned at;
+    unsigned part = sizeof parts / sizeof parts[0] - 1;
+    if (memcmp(answer, same, sizeof *answer) == 0) {
+        return (struct difference){0};
+    }
+    at = first_difference(answer, same);
+    while (parts[part].at > at) {
+        part--;
+    }
+    return (struct difference){parts[part].name, (int)(at - parts[part].at), ((const uint8_t *)answer)[at], ((const uint8_t *)same)[at]};
+}
+
+static struct difference compare_records(const struct basintilt_device *device, const struct basintilt_device *same)
+{
+    const struct field *field;
+    if (memcmp(device, same, sizeof *device) == 0) {
+        return (struct difference){0};
+    }
+    field = field_at(first_difference(device, same));
+    return (struct difference){field->name, -1, field_value(device, field), field_value(same, field)};
+}
+
+/* What a refusal leaves of the record: at an event what was lent, at power-on zeros. */
+static struct difference compare_refused(const struct pair *pair, const struct call *call, const struct basintilt_device *lent)
+{
+    static const struct basintilt_device zeros;
+    bool refuses = call->kind == EVENT || call->kind == POWER_ON;
+    if (!refuses || pair->answer.refusal == BASINTILT_ACCEPTED) {
+        return (struct difference){0};
+    }
+    return compare_records(&pair->device, call->kind == EVENT ? lent : &zeros);
+}
+
+static struct difference compare_queries(const struct pair *pair)
+{
+    if (pair->block_answer == pair->reference_block_answer) {
+        return (struct difference){0};
+    }
+    return (struct difference){"answer to the block query", -1, pair->block_answer, pair->reference_block_answer};
 }
 
 struct difference perform(struct pair *pair, const struct call *call)
 {
-    struct difference difference;
+    struct basintilt_device lent = pair->device;
     uint32_t end = call->kind == BYTE_WRITTEN ? call->written.at + 1 : call->length;
     pair->used = end > pair->used ? end : pair->used;
     do_call(pair, call);
-    difference = compare_answers(pair);
-    if (difference.what == NULL) {
-        difference = compare_records(pair);
+    const struct difference differences[] = {
+        compare_answers(&pair->answer, &pair->expected_answer),
+        compare_records(&pair->device, &pair->expected_device),
+        compare_refused(pair, call, &lent),
+        compare_queries(pair),
+        compare_journals(pair),
+    };
+    for (unsigned i = 0; i < sizeof differences / sizeof differences[0]; i++) {
+        if (differences[i].what != NULL) {
+            return differences[i];
+        }
     }
-    if (difference.what == NULL) {
-        difference = compare_bytes("the journal's byte", pair->journal, pair->reference_journal, pair->used + GUARD);
-    }
-    return difference;
+    return (struct difference){0};
 }

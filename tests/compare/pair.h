@@ -21,15 +21,27 @@ struct difference {
     int64_t reference;
 };
 
-/* What the reference is made to say wrongly, to show that it is seen. */
-enum fault { NO_FAULT, WRONG_FRAME_BYTE, WRONG_FIELD, WRONG_JOURNAL_BYTE, FAULTS };
+/* What is made wrong on purpose, to show that it is seen. */
+enum fault {
+    NO_FAULT,
+    WRONG_FRAME_BYTE,
+    WRONG_BYTE_PAST_LENGTH, /* of a frame */
+    WRONG_BYTE_PAST_COUNT,  /* of the frames */
+    WRONG_FIELD,
+    WRONG_HIGH_BYTE,        /* of a field that is wider than the reference's */
+    WRONG_JOURNAL_BYTE,
+    REFUSED_BUT_CHANGED,    /* the record, and in both sensors alike */
+    FAULTS
+};
 
 struct pair {
     enum fault fault;
+    bool too_wide; /* the reference has no such record, since a number is too wide for its field there */
     struct basintilt_device device;
-    struct reference_record record;
     struct basintilt_answer answer;
-    struct reference_answer reference_answer;
+    struct reference_record record;
+    struct basintilt_device expected_device; /* what the reference says, in the library's bytes */
+    struct basintilt_answer expected_answer;
     uint32_t block_answer;
     uint32_t reference_block_answer;
     uint32_t used; /* the longest journal so far; behind it nothing was ever written */

@@ -101,7 +101,7 @@ static const struct object *any_writable(struct chance *chance)
 /* The string is asked for, or its next segment, mostly with the right toggle. */
 static struct basintilt_happening transfer_request(struct chance *chance, const struct basintilt_device *device, unsigned channel)
 {
-    uint8_t transfer = channel == 0 ? device->one : device->two;
+    uint8_t transfer = device->transfers[channel].stage;
     uint32_t right = transfer == BASINTILT_AFTER_SEVEN ? NEXT_SEGMENT_TOGGLED : NEXT_SEGMENT;
     uint32_t first = PICK(chance, right, right, right, right, NEXT_SEGMENT, NEXT_SEGMENT_TOGGLED, ENDS);
     uint32_t unused = one_in(chance, 2) ? 0 : any32(chance);
@@ -129,7 +129,7 @@ struct basintilt_happening any_request(struct chance *chance, const struct basin
     const struct object *object = &objects[below(chance, OBJECTS)];
     uint32_t value = one_in(chance, 3) ? 0 : any32(chance);
     uint32_t turn = below(chance, 100);
-    if ((channel == 0 ? device->one : device->two) != BASINTILT_ABSENT && one_in(chance, 2)) {
+    if (device->transfers[channel].stage != BASINTILT_ABSENT && one_in(chance, 2)) {
         return transfer_request(chance, device, channel);
     }
     if (turn < 45) {

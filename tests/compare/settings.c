@@ -29,7 +29,7 @@ int16_t any_angle(struct chance *chance)
 static struct basintilt_axis_settings any_axis_settings(struct chance *chance)
 {
     struct basintilt_axis_settings axis;
-    axis.operating = (uint8_t)below(chance, BASINTILT_MOST_OPERATING + 1);
+    axis.operating = (uint16_t)below(chance, BASINTILT_MOST_OPERATING + 1);
     axis.preset = any_angle(chance);
     axis.offset = any_angle(chance);
     axis.differential = any_angle(chance);

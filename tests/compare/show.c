@@ -38,7 +38,7 @@ static void show_happening(const struct basintilt_happening *happening)
 static void show_record(const struct basintilt_device *device)
 {
     for (unsigned i = 0; i < FIELDS; i++) {
-        long long number = field_of_library(device, &fields[i]);
+        long long number = field_value(device, &fields[i]);
         if (number != 0) {
             printf(" %s=%lld", fields[i].name, number);
         }

@@ -105,6 +105,11 @@ static bool has_range(unsigned field)
     return true;
 }
 
+static bool has_wide_numbers(unsigned field)
+{
+    return is_wider(&fields[field]);
+}
+
 #define TALLY(title, array, label, each, some)                                                            \
     {                                                                                                     \
         .name = (title), .counts = counts.array, .size = sizeof counts.array / sizeof counts.array[0],    \
@@ -129,6 +134,7 @@ bool show_counts(void)
         TALLY("objects written", writes, show_object, false, is_writable),
         TALLY("journals at power-on", journals, show_journal, false, NULL),
         TALLY("fields out of range", fields_refused, show_field, false, has_range),
+        TALLY("fields out of range by their high bytes alone", fields_refused_as_wide, show_field, false, has_wide_numbers),
     };
     bool all = true;
     for (unsigned i = 0; i < sizeof tallies / sizeof tallies[0]; i++) {

@@ -47,7 +47,7 @@ static bool make_any_journal(struct chance *chance, uint32_t length)
 static bool make_any_record(struct chance *chance)
 {
     struct call call = {.kind = RECORD_MADE};
-    call.made.shape = one_in(chance, 20) ? WHOLLY_RANDOM : IN_RANGE;
+    call.made.shape = one_in(chance, 10) ? PICK(chance, LOW_BYTES_IN_RANGE, WHOLLY_RANDOM) : IN_RANGE;
     call.made.seed = any64(chance);
     return make_call(call);
 }
@@ -56,7 +56,7 @@ static bool write_any_field(struct chance *chance)
 {
     struct call call = {.kind = FIELD_WRITTEN};
     call.written.at = below(chance, FIELDS);
-    call.written.number = number_for_field(chance, &pair.device);
+    call.written.number = number_for_field(chance, &pair.device, &fields[call.written.at]);
     return make_call(call);
 }
 

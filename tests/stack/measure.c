@@ -4,19 +4,23 @@
 #include <stdio.h>
 #include <string.h>
 
-enum { STACK_BYTES = 32768, PAINT = 0xA5, BLOCKS_TRIED = 3 };
+enum { STACK_BYTES = 32768, PAINT = 0xA5, BLOCKS_TRIED = 3, BLOCKS_PROBED = 4096 };
 
 /* What docs/INTEGRATION.md says is enough. */
-enum { ENOUGH_FOR_POWER_ON = 9216, ENOUGH_FOR_EVENT = 2048, ENOUGH_FOR_QUERY = 256 };
+enum { ENOUGH_FOR_POWER_ON = 2048, ENOUGH_FOR_EVENT = 2048, ENOUGH_FOR_QUERY = 256 };
+
+/* crates/stack_probe: the filled blocks, and 65,536 more where the journal is spoiled. */
+uint32_t stack_probe(const uint8_t *journal, size_t journal_length);
 
 static uint8_t stack[STACK_BYTES] __attribute__((aligned(16)));
-static uint8_t journal[BASINTILT_MOST_BLOCKS * BASINTILT_BLOCK_BYTES];
+static uint8_t journal[BLOCKS_PROBED * BASINTILT_BLOCK_BYTES];
 static size_t journal_length;
 static struct basintilt_device device;
 static struct basintilt_stepped stepped;
 static struct basintilt_answer answer;
 static struct basintilt_happening happening;
 static volatile uint32_t judged;
+static volatile uint32_t probed;
 
 static void power_on(void)
 {
@@ -31,6 +35,11 @@ static void event(void)
 static void block(void)
 {
     judged = basintilt_block(journal, BASINTILT_BLOCK_BYTES, 1);
+}
+
+static void probe(void)
+{
+    probed = stack_probe(journal, journal_length);
 }
 
 /* The bytes between the top of the painted stack and the deepest changed one. */
@@ -113,6 +122,18 @@ static int over(const char *what, unsigned blocks, size_t bytes, size_t enough)
     return bytes > enough;
 }
 
+/* What power-on counts, over more blocks than it accepts: so many are good, and it goes over all the blank ones behind them. */
+static int over_long_journal(uint16_t filled)
+{
+    journal_length = BASINTILT_MOST_BLOCKS * BASINTILT_BLOCK_BYTES;
+    fill(filled);
+    journal_length = sizeof journal;
+    size_t bytes = depth(probe);
+    if (probed != filled)
+        printf("%u blocks are counted, not %u\n", (unsigned)probed, filled);
+    return (probed != filled) + over(filled ? "what power-on counts, some good" : "what power-on counts, all blank", BLOCKS_PROBED, bytes, ENOUGH_FOR_POWER_ON);
+}
+
 int main(void)
 {
     static const uint16_t blocks[BLOCKS_TRIED] = {1, 2, BASINTILT_MOST_BLOCKS};
@@ -128,5 +149,6 @@ int main(void)
         note(&most, requests());
         failures += over("an event, the deepest", blocks[i], most, ENOUGH_FOR_EVENT);
     }
+    failures += over_long_journal(0) + over_long_journal(BASINTILT_MOST_BLOCKS);
     return failures + over("block query", 1, depth(block), ENOUGH_FOR_QUERY);
 }

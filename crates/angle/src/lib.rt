@@ -23,7 +23,7 @@ fn steps(m: i32, r: u16) -> i32
 }
 
 // The steps with the sign that bit 0 of 6011 gives them.
-pub fn q(m: i32, r: u16, operating: u8) -> i32
+pub fn q(m: i32, r: u16, operating: u16) -> i32
     requires { ⌜ (within Resolution r ≡ true) × (inside m ≡ true) ⌝ }
     ensures { λ t. ⌜ t ≡ q m r operating ⌝ }
 {
@@ -32,7 +32,7 @@ pub fn q(m: i32, r: u16, operating: u8) -> i32
 }
 
 // Both offsets count where bit 1 of 6011 is set.
-fn sum(m: i32, r: u16, operating: u8, offset: i16, differential: i16) -> i32
+fn sum(m: i32, r: u16, operating: u16, offset: i16, differential: i16) -> i32
     requires { ⌜ (within Resolution r ≡ true) × (inside m ≡ true) ⌝ }
     ensures { λ t. ⌜ t ≡ sum m r operating offset differential ⌝ }
 {
@@ -58,7 +58,7 @@ fn nearer(z: i32) -> i16
 }
 
 // The angle of a last good reading.
-pub fn angle(m: i32, r: u16, operating: u8, offset: i16, differential: i16) -> i16
+pub fn angle(m: i32, r: u16, operating: u16, offset: i16, differential: i16) -> i16
     requires { ⌜ (within Resolution r ≡ true) × (inside m ≡ true) ⌝ }
     ensures { λ t. ⌜ t ≡ angle m r operating offset differential ⌝ }
 {
@@ -78,7 +78,7 @@ pub fn shown(x: Reading, r: u16, s: AxisSettings) -> i16
 }
 
 // The offset of a preset, whole: it may not fit 16 bits.
-fn offset(m: i32, r: u16, operating: u8, differential: i16, preset: i16) -> i32
+fn offset(m: i32, r: u16, operating: u16, differential: i16, preset: i16) -> i32
     requires { ⌜ (within Resolution r ≡ true) × (inside m ≡ true) ⌝ }
     ensures { λ t. ⌜ t ≡ offset m r operating differential preset ⌝ }
 {
@@ -87,7 +87,7 @@ fn offset(m: i32, r: u16, operating: u8, differential: i16, preset: i16) -> i32
 }
 
 // What a preset makes of an axis.
-pub fn zeroed(x: Reading, r: u16, operating: u8, differential: i16, preset: i16) -> Zeroed
+pub fn zeroed(x: Reading, r: u16, operating: u16, differential: i16, preset: i16) -> Zeroed
     requires { ⌜ (within Resolution r ≡ true) × (axisOk x ≡ true) ⌝ }
     ensures { λ t. ⌜ t ≡ zeroed x r operating differential preset ⌝ }
 {

@@ -1,5 +1,5 @@
 // What the recorder's C firmware calls: power-on, one event on its lent device record, and the block query.
-use device::Answer;
+use answers::Answer;
 use device::Device;
 use device::Stepped;
 use rules::events::Event;
@@ -8,6 +8,8 @@ use rules::journal::Judged;
 use rules::objects::Axis;
 use rules::parts::Identity;
 ghost use mathlib.Core.Path.{_≡_};
+ghost use mathlib.Core.Bool.{cond};
+ghost use lib.Dec.{leb};
 ghost use Rattle.device.specs.Promise.{PoweredOn};
 ghost use Rattle.basintilt.specs.Happenings.{eventOf};
 ghost use Rattle.basintilt.specs.Lent.{stepOf, journalOf, Lent};
@@ -48,16 +50,21 @@ fn event_of(happening: Happening) -> Event
     }
 }
 
-// The step by value: an event whose kind is no kind has no bytes.
+// An event whose kind is no kind has no bytes.
+fn bytes_in(kind: u8, length: u8) -> u8
+    ensures { λ r. ⌜ r ≡ cond (leb kind 4) length 0 ⌝ }
+{
+    if kind <= 4 { length } else { 0 }
+}
+
+// The step by value.
 fn step(device: Device, journal: &mut [u8], happening: Happening) -> Stepped
     ensures { λ r. ⌜ (r ≡ stepOf device (now (journal .entry)) happening) × (now (journal .exit) ≡ journalOf device (now (journal .entry)) happening) ⌝ }
 {
     let event = event_of(happening);
     let bytes = happening.bytes;
-    if happening.kind <= 4 {
-        return device.event(journal, event, bytes, happening.length);
-    }
-    device.event(journal, event, bytes, 0)
+    let length = bytes_in(happening.kind, happening.length);
+    device.event(journal, event, bytes, length)
 }
 
 // The recorder lends its one device record and its journal, and finds them updated.

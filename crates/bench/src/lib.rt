@@ -1,5 +1,5 @@
 // The bench of the trace program: lines of events in, the sensor's frames or a refusal out.
-use device::Answer;
+use answers::Answer;
 use device::Device;
 use libc::STDIN_FILENO;
 use libc::STDOUT_FILENO;
@@ -23,17 +23,22 @@ fn print(text: Text) {
     }
 }
 
+// Every refusal is a number of one digit.
+fn print_refusal(refusal: u16) {
+    if refusal != 0 {
+        print(printing::refusal_text((refusal % 256) as u8));
+    }
+}
+
 fn print_answer(answer: Answer) {
-    let first = answer.first;
-    let second = answer.second;
-    if answer.refusal != 0 {
-        print(printing::refusal_text(answer.refusal));
-    }
-    if 0 < answer.count {
-        print(printing::frame_text(first));
-    }
-    if 1 < answer.count {
-        print(printing::frame_text(second));
+    print_refusal(answer.refusal);
+    let frames = answer.frames;
+    let mut i = 0;
+    while i < answers::MOST_FRAMES {
+        if i < (answer.count as usize) {
+            print(printing::frame_text(frames[i]));
+        }
+        i += 1;
     }
 }
 
@@ -99,7 +104,8 @@ fn feed(start: Bench, journal: &mut [u8], chunk: &[u8]) -> Bench {
     let mut bench = start;
     let mut i = 0;
     while i < chunk.len() {
-        bench = take(bench, journal, chunk[i]);
+        let next = take(bench, journal, chunk[i]);
+        bench = next;
         i += 1;
     }
     bench
@@ -122,7 +128,8 @@ pub fn follow() {
         if n == 0 {
             turns = 0;
         } else {
-            bench = feed(bench, journal, &chunk[..n]);
+            let next = feed(bench, journal, &chunk[..n]);
+            bench = next;
             turns -= 1;
         }
     }

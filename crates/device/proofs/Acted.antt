@@ -3,40 +3,39 @@ use mathlib.Core.Path.{_≡_, refl}
 use mathlib.Core.Bool.{Bool}
 use mathlib.Core.List.{List}
 use Prim.Native.Nat.{ℕ}
-use Rattle.changes.specs.After.{settingsAfter, savesAfter, journalAfter}
+use Rattle.changes.specs.After.{journalAfter}
 use Rattle.rules.specs.declared.objects.Channel.{Channel}
-use Rattle.rules.specs.declared.objects.Channel.the-variants.{One, Two}
+use Rattle.rules.specs.declared.parts.Transfer.{Transfer}
 use Rattle.rules.specs.declared.requests.Change.{Change}
 use Rattle.rules.specs.declared.requests.Change.the-variants.{Keep, Put, Zero, Empty, Fill}
 use Rattle.rules.specs.declared.requests.Outcome.{Outcome}
-use Rattle.rules.specs.Service.{onErrors, onHeartbeat, onPdo, after}
+use Rattle.rules.specs.Service.{stores, after}
+use Rattle.service.specs.Transfers.{transfersAfter}
 use Rattle.device.specs.declared.Device.{Device}
+use Rattle.device.specs.Changed.{changed}
 use Rattle.device.specs.Seen.{seen, alone, held}
-use Rattle.device.specs.Views.{withTransfer}
 
--- the parts of the record after a change
-abbrev pub parts : Change → Device → Device
-parts e d = record {
-  node = d .node;
-  network = d .network;
-  one = d .one;
-  two = d .two;
-  heartbeat = onHeartbeat e (d .heartbeat);
-  pdo = onPdo e (d .pdo);
+-- the record with one channel's transfer another
+abbrev pub withTransfer : Channel → Transfer → Device → Device
+withTransfer c t d = record {
   identity = d .identity;
-  saves = savesAfter e (d .saves);
-  running = settingsAfter e (d .running);
-  errors = onErrors e (d .errors);
   x = d .x;
   y = d .y;
+  heartbeat = d .heartbeat;
+  pdo = d .pdo;
+  saves = d .saves;
+  running = d .running;
+  errors = d .errors;
+  node = d .node;
+  network = d .network;
+  transfers = transfersAfter c t (d .transfers);
 }
 
-pub acted : (c : Channel) (o : Outcome) (d : Device) → withTransfer c (o .transfer) (parts (o .change) d) ≡ held (after c o (alone d))
-acted One o d = refl
-acted Two o d = refl
+pub acted : (c : Channel) (o : Outcome) (d : Device) → changed (o .change) (withTransfer c (o .transfer) d) ≡ held (after c o (alone d))
+acted c o d = refl
 
 -- by the change: the record moves alike beside any journal, and the journal is written by a fill alone
-module _ (c : Channel) (replies : Bool) (bytes : List ℕ) (t : ℕ) (d : Device) (j : List ℕ) where
+module _ (c : Channel) (replies : Bool) (bytes : List ℕ) (t : Transfer) (d : Device) (j : List ℕ) where
   abbrev by : Change → Outcome
   by e = record { replies = replies; bytes = bytes; transfer = t; change = e }
 
@@ -45,11 +44,11 @@ module _ (c : Channel) (replies : Bool) (bytes : List ℕ) (t : ℕ) (d : Device
   record-beside (Put s v) = refl
   record-beside (Zero a preset offset) = refl
   record-beside Empty = refl
-  record-beside (Fill b kind s) = refl
+  record-beside (Fill b kind) = refl
 
-  pub journal-beside : (e : Change) → after c (by e) (seen d j) .journal ≡ journalAfter (d .saves .filled) e j
+  pub journal-beside : (e : Change) → after c (by e) (seen d j) .journal ≡ journalAfter (d .saves .filled) e (stores e (d .running)) j
   journal-beside Keep = refl
   journal-beside (Put s v) = refl
   journal-beside (Zero a preset offset) = refl
   journal-beside Empty = refl
-  journal-beside (Fill b kind s) = refl
+  journal-beside (Fill b kind) = refl

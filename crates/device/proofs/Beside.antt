@@ -12,7 +12,7 @@ use Rattle.rules.specs.Network.{start, onCommand, onNetwork}
 use Rattle.rules.specs.Ranges.{inRange}
 use Rattle.rules.specs.Readings.{onReading}
 use Rattle.rules.specs.Results.{Result}
-use Rattle.rules.specs.Time.{syncCounts, onTick, onSync}
+use Rattle.rules.specs.Time.{onTick, onSync}
 use Rattle.device.specs.declared.Device.{Device}
 use Rattle.device.specs.declared.Stepped.{Stepped}
 use Rattle.device.specs.Answers.{steppedOf}
@@ -42,7 +42,7 @@ module _ (d : Device) (j : List ℕ) where
 
   pub sync-beside : Beside j (onSync (seen d j)) (onSync (alone d))
   unfolding onSync
-  sync-beside = either j (syncCounts (alone d)) (record { same = refl; kept = refl }) (record { same = refl; kept = refl })
+  sync-beside = record { same = refl; kept = refl }
 
   pub reading-beside : (a : Axis) (m : ℤ) → Beside j (onReading a m (seen d j)) (onReading a m (alone d))
   unfolding onReading

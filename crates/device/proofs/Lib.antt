@@ -1,4 +1,5 @@
 pub mod Acted
 pub mod Beside
+pub mod Named
 pub mod Refused
 pub mod Views

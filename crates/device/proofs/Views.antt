@@ -2,6 +2,7 @@
 use mathlib.Core.Path.{_≡_, refl}
 use mathlib.Core.List.{List}
 use Prim.Native.Nat.{ℕ}
+use Rattle.rules.specs.declared.objects.Axis.the-variants.{X, Y}
 use Rattle.rules.specs.declared.objects.Channel.{Channel}
 use Rattle.rules.specs.declared.objects.Channel.the-variants.{One, Two}
 use Rattle.rules.specs.declared.objects.Found.{Found}
@@ -9,7 +10,7 @@ use Rattle.rules.specs.declared.objects.Found.the-variants.{At, NoObject, NoSub
 use Rattle.rules.specs.declared.objects.Object.{Object}
 use Rattle.rules.specs.declared.objects.Object.the-variants.{Const, ErrorCount, ErrorEntry, Name, Save, Load, Filled, Angle, Of}
 use Rattle.rules.specs.declared.objects.Setting.{Setting}
-use Rattle.rules.specs.declared.objects.Setting.the-variants.{Heartbeat, On, Transmission, Timer, Resolution, Operating, Preset, Offset, Differential}
+use Rattle.rules.specs.declared.objects.Setting.the-variants.{Heartbeat, Pdo, Resolution, Operating, Preset, Offset, Differential}
 use Rattle.rules.specs.declared.requests.Command.{Command}
 use Rattle.rules.specs.declared.requests.Command.the-variants.{Write, Read, Segment, End, Unknown}
 use Rattle.rules.specs.Cells.{transfer, get}
@@ -40,17 +41,17 @@ module _ (c : Channel) (d : Device) (j : List ℕ) where
   read-alike Save = refl
   read-alike Load = refl
   read-alike Filled = refl
-  read-alike (Angle a) = refl
+  read-alike (Angle X) = refl
+  read-alike (Angle Y) = refl
   read-alike (Of s) = refl
 
   setting-alike : (s : Setting) (v : ℕ) → (settingCheck s v looked ≡ settingCheck s v whole) × (settingChange s v looked ≡ settingChange s v whole)
   setting-alike Heartbeat v = (refl, refl)
-  setting-alike On v = (refl, refl)
-  setting-alike Transmission v = (refl, refl)
-  setting-alike Timer v = (refl, refl)
+  setting-alike (Pdo n p) v = (refl, refl)
   setting-alike Resolution v = (refl, refl)
   setting-alike (Operating a) v = (refl, refl)
-  setting-alike (Preset a) v = (refl, refl)
+  setting-alike (Preset X) v = (refl, refl)
+  setting-alike (Preset Y) v = (refl, refl)
   setting-alike (Offset a) v = (refl, refl)
   setting-alike (Differential a) v = (refl, refl)
 

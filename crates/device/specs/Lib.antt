@@ -1,4 +1,7 @@
 pub mod Seen
 pub mod Answers
+pub mod Changed
 pub mod Promise
+pub mod Requested
+pub mod Resets
 pub mod Views

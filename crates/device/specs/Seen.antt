@@ -18,8 +18,7 @@ seen d j = record {
   errors = d .errors;
   heartbeat = d .heartbeat;
   pdo = d .pdo;
-  one = d .one;
-  two = d .two;
+  transfers = d .transfers;
   x = d .x;
   y = d .y;
   journal = j;
@@ -27,18 +26,17 @@ seen d j = record {
 
 abbrev pub held : State → Device
 held u = record {
-  node = u .node;
-  network = u .network;
-  one = u .one;
-  two = u .two;
+  identity = u .identity;
+  x = u .x;
+  y = u .y;
   heartbeat = u .heartbeat;
   pdo = u .pdo;
-  identity = u .identity;
   saves = u .saves;
   running = u .running;
   errors = u .errors;
-  x = u .x;
-  y = u .y;
+  node = u .node;
+  network = u .network;
+  transfers = u .transfers;
 }
 
 -- what most events do has nothing to do with the journal: they are said of the record beside no journal

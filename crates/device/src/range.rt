@@ -6,13 +6,14 @@ ghost use Rattle.device.specs.Seen.{alone};
 
 impl Device {
     // The order of the parts is the cheapest of those that were counted.
-    pub fn in_range(self) -> bool
+    pub(crate) fn in_range(self) -> bool
         ensures { λ r. ⌜ r ≡ inRange (alone self) ⌝ }
     {
         if !ranges::saves_ok(self.saves) {
             return false;
         }
-        if !(ranges::transfer_ok(self.one) & ranges::transfer_ok(self.two)) {
+        let transfers = self.transfers;
+        if !ranges::transfers_ok(transfers) {
             return false;
         }
         if !ranges::in_table(self.running) {
@@ -24,7 +25,7 @@ impl Device {
         if !ranges::errors_ok(self.errors) {
             return false;
         }
-        if !(ranges::node_ok(self.node as u32) & ranges::network_ok(self.network)) {
+        if !(ranges::own_node_ok(self.node) & ranges::network_ok(self.network)) {
             return false;
         }
         ranges::elapsed_ok(self.running.heartbeat, self.heartbeat)

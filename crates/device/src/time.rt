@@ -1,66 +1,67 @@
-// Ticks and SYNCs.
-use crate::Answer;
+// Ticks, SYNCs and readings.
 use crate::Device;
 use crate::Stepped;
-use rules::events::Frame;
-use rules::parts::PdoCounts;
+use rules::objects::Axis;
+use rules::objects::PdoNumber;
 ghost use mathlib.Core.Path.{_≡_};
-ghost use mathlib.Core.List.{_++_};
-ghost use Rattle.rules.specs.Frames.{heartbeat};
-ghost use Rattle.rules.specs.Time.{when, pdoOf, onTick, onSync};
-ghost use Rattle.device.specs.Answers.{answering, steppedOf};
+ghost use Rattle.rules.specs.Readings.{onReading};
+ghost use Rattle.rules.specs.Time.{onTick, onSync};
+ghost use Rattle.device.specs.Answers.{steppedOf};
 ghost use Rattle.device.specs.Seen.{alone, Ranged};
 
 impl Device {
-    fn pdo_frame(self) -> Frame
+    pub(crate) fn tick(mut self, ms: u16) -> Stepped
         requires { ⌜ Ranged self ⌝ }
-        ensures { λ r. ⌜ r ≡ pdoOf (alone self) ⌝ }
+        ensures { λ r. ⌜ r ≡ steppedOf (onTick ms (alone self)) ⌝ }
     {
-        frames::pdo(self.node, self.x, self.y, self.running)
-    }
-
-    // The heartbeat where it is due, and then the PDO where it is.
-    fn timed(self, beats: bool, sends: bool) -> Answer
-        requires { ⌜ Ranged self ⌝ }
-        ensures { λ r. ⌜ r ≡ answering 0 (when beats (heartbeat (self .node) (self .network)) ++ when sends (pdoOf (alone self))) ⌝ }
-    {
-        if !sends {
-            if beats {
-                return Answer::one(frames::heartbeat(self.node, self.network));
-            }
-            return Answer::silent(0);
-        }
-        let pdo = self.pdo_frame();
-        if beats {
-            return Answer::two(frames::heartbeat(self.node, self.network), pdo);
-        }
-        Answer::one(pdo)
-    }
-
-    // What a tick sends; its counts go up in the record itself.
-    pub fn ticking(self, ms: u16) -> Answer
-        requires { ⌜ Ranged self ⌝ }
-        ensures { λ r. ⌜ r ≡ answering 0 (onTick ms (alone self) .sent) ⌝ }
-    {
-        let beats = timers::reaches(true, self.running.heartbeat, self.heartbeat, ms);
+        let period = self.running.heartbeat;
+        let beats = timers::reaches(true, period, self.heartbeat, ms);
         let sends = timers::tick_sends(self.network, self.running.pdo, self.pdo, ms);
-        self.timed(beats, sends)
+        let answer = answers::timed(
+            beats,
+            sends,
+            PdoNumber::First,
+            self.node,
+            self.network,
+            self.x,
+            self.y,
+            self.running,
+        );
+        self.heartbeat = timers::elapsed_after(true, period, self.heartbeat, ms);
+        self.pdo = timers::ticked(self.network, self.running.pdo, self.pdo, ms);
+        self.with(answer)
     }
 
-    pub fn sync(mut self) -> Stepped
+    pub(crate) fn sync(mut self) -> Stepped
         requires { ⌜ Ranged self ⌝ }
         ensures { λ r. ⌜ r ≡ steppedOf (onSync (alone self)) ⌝ }
     {
-        if timers::sync_counts(self.network, self.running.pdo) {
-            let transmission = self.running.pdo.transmission;
-            let answer = self.timed(false, timers::sync_due(transmission, self.pdo.syncs));
-            let counts = PdoCounts {
-                elapsed: self.pdo.elapsed,
-                syncs: timers::syncs_after(transmission, self.pdo.syncs),
-            };
-            self.pdo = counts;
-            return self.with(answer);
-        }
-        self.stay(0)
+        let sends = timers::sync_sends(self.network, self.running.pdo, self.pdo);
+        let answer = answers::timed(
+            false,
+            sends,
+            PdoNumber::First,
+            self.node,
+            self.network,
+            self.x,
+            self.y,
+            self.running,
+        );
+        self.pdo = timers::synced(self.network, self.running.pdo, self.pdo);
+        self.with(answer)
+    }
+
+    pub(crate) fn measure(mut self, axis: Axis, m: i32) -> Stepped
+        ensures { λ r. ⌜ r ≡ steppedOf (onReading axis m (alone self)) ⌝ }
+    {
+        let spoiled = self.saves.spoiled;
+        let before = frames::register(spoiled, self.x.state, self.y.state);
+        let fault = readings::fails(m, readings::of(axis, self.x, self.y));
+        let code = readings::fault_code(axis);
+        self.errors = readings::listed(fault, code, self.errors);
+        self.x = readings::x_after(axis, m, self.x);
+        self.y = readings::y_after(axis, m, self.y);
+        let after = frames::register(spoiled, self.x.state, self.y.state);
+        self.with(readings::alarm(self.node, self.network, fault, code, before, after))
     }
 }

@@ -4,7 +4,7 @@ ghost use mathlib.Core.Bool.{true, cond};
 ghost use Prim.Native.Nat.{_≤_};
 ghost use Rattle.rules.specs.Errors;
 ghost use Rattle.rules.specs.Frames;
-ghost use Rattle.rules.specs.Frames.{noFrame, bootUp, pdoFrame, replyFrame, requestsAt, repliesAt};
+ghost use Rattle.rules.specs.Frames.{noFrame, bootUp, pdoAt, pdoFrame, replyFrame, requestsAt, repliesAt};
 ghost use Rattle.rules.specs.declared.objects.Setting.the-variants.{Resolution};
 ghost use Rattle.rules.specs.Angle.{shown};
 ghost use Rattle.rules.specs.Numbers.{unsigned};
@@ -12,6 +12,7 @@ ghost use Rattle.rules.specs.Ranges.{axisOk};
 ghost use Rattle.rules.specs.Settings.{within, inTable};
 use rules::events::Frame;
 use rules::objects::Channel;
+use rules::objects::PdoNumber;
 use rules::parts::Reading;
 use rules::settings::AxisSettings;
 use rules::settings::Settings;
@@ -21,10 +22,8 @@ const HEARTBEAT_AT: u16 = 0x700;
 
 const EMERGENCY_AT: u16 = 0x80;
 
-const PDO_AT: u16 = 0x180;
-
 // The most bytes of a frame.
-const MOST_BYTES: u8 = 8;
+const MOST_BYTES: u16 = 8;
 
 // No frame is sent: all zero.
 pub fn none() -> Frame
@@ -74,9 +73,18 @@ fn shown_bits(x: Reading, resolution: u16, s: AxisSettings) -> u16
     numbers::bits(angle::shown(x, resolution, s))
 }
 
-pub fn pdo(node: u8, x: Reading, y: Reading, s: Settings) -> Frame
+// Where a PDO goes; the node is added.
+pub fn pdo_at(number: PdoNumber) -> u16
+    ensures { λ r. ⌜ r ≡ pdoAt number ⌝ }
+{
+    match number {
+        PdoNumber::First => 0x180,
+    }
+}
+
+pub fn pdo(number: PdoNumber, node: u8, x: Reading, y: Reading, s: Settings) -> Frame
     requires { ⌜ (inTable s ≡ true) × ((axisOk x ≡ true) × (axisOk y ≡ true)) ⌝ }
-    ensures { λ r. ⌜ r ≡ pdoFrame node x y s ⌝ }
+    ensures { λ r. ⌜ r ≡ pdoFrame number node x y s ⌝ }
 {
     let first = shown_bits(x, s.resolution, s.x);
     let second = shown_bits(y, s.resolution, s.y);
@@ -84,7 +92,7 @@ pub fn pdo(node: u8, x: Reading, y: Reading, s: Settings) -> Frame
     let x_high = numbers::high(first);
     let y_low = numbers::low(second);
     let y_high = numbers::high(second);
-    let identifier = PDO_AT + (node as u16);
+    let identifier = pdo_at(number) + (node as u16);
     Frame {
         identifier,
         length: 4,
@@ -130,7 +138,7 @@ fn bit(set: bool, value: u8) -> u8
 }
 
 // Bit 7 is the journal's, bit 5 the axes', bit 0 is set with either.
-pub fn register(spoiled: u8, x: u8, y: u8) -> u8
+pub fn register(spoiled: u16, x: u32, y: u32) -> u8
     ensures { λ r. ⌜ r ≡ Errors.register spoiled x y ⌝ }
 {
     let bad = spoiled != 0;

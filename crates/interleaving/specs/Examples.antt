@@ -11,7 +11,7 @@ use Rattle.rules.specs.Events.{NotRefused, event}
 use Rattle.rules.specs.Frames.{frame}
 use Rattle.rules.specs.Network.{noReading}
 use Rattle.rules.specs.Settings.{factory}
-use Rattle.rules.specs.State.{State, operational, absent, good, noCounts}
+use Rattle.rules.specs.State.{State, operational, noTransfers, good, noCounts}
 use Rattle.interleaving.specs.Demand3.{FramesApart, RunsApart}
 use Rattle.interleaving.specs.Runs.{RunFrame, Turn, turn, Interleaves, Answer, endOf, answers}
 
@@ -26,8 +26,7 @@ device = record {
   errors = noErrors;
   heartbeat = 0;
   pdo = noCounts;
-  one = absent;
-  two = absent;
+  transfers = noTransfers;
   x = record { state = good; m = pos 12345 };
   y = noReading;
   journal = replicate 512 255;

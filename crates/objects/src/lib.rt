@@ -4,9 +4,11 @@ use rules::objects::Channel;
 use rules::objects::Fixed;
 use rules::objects::Found;
 use rules::objects::Object;
+use rules::objects::PdoNumber;
+use rules::objects::PdoSetting;
 use rules::objects::Setting;
 ghost use mathlib.Core.Path.{_≡_};
-ghost use Rattle.rules.specs.Objects.{objectAt};
+ghost use Rattle.rules.specs.Objects.{onPdo, objectAt};
 ghost use Rattle.objects.specs.Rows.{onlyAt, serverAt};
 
 // An index with the one subindex 0.
@@ -84,17 +86,18 @@ fn server(channel: Channel, subindex: u8) -> Found
     Found::At(Object::Const(f))
 }
 
-fn pdo(subindex: u8) -> Found
-    ensures { λ r. ⌜ r ≡ objectAt 0x1800 subindex ⌝ }
+// A PDO's settings.
+fn pdo(number: PdoNumber, subindex: u8) -> Found
+    ensures { λ r. ⌜ r ≡ objectAt (onPdo number) subindex ⌝ }
 {
-    let o = match subindex {
-        0 => Object::Const(Fixed::PdoCount),
-        1 => Object::Of(Setting::On),
-        2 => Object::Of(Setting::Transmission),
-        5 => Object::Of(Setting::Timer),
+    let part = match subindex {
+        0 => return Found::At(Object::Const(Fixed::PdoCount(number))),
+        1 => PdoSetting::On,
+        2 => PdoSetting::Transmission,
+        5 => PdoSetting::Timer,
         _ => return Found::NoSubindex,
     };
-    Found::At(o)
+    Found::At(Object::Of(Setting::Pdo(number, part)))
 }
 
 fn mapping(subindex: u8) -> Found
@@ -125,7 +128,7 @@ pub fn object_at(index: u16, subindex: u8) -> Found
         0x1018 => return identity(subindex),
         0x1200 => return server(Channel::One, subindex),
         0x1201 => return server(Channel::Two, subindex),
-        0x1800 => return pdo(subindex),
+        0x1800 => return pdo(PdoNumber::First, subindex),
         0x1A00 => return mapping(subindex),
         0x2100 => Object::Filled,
         0x2101 => Object::Const(Fixed::Blocks),

@@ -25,7 +25,7 @@ fn with_pair(text: Text, b: u8) -> Text
     text.with(digit(b / 16)).with(digit(b % 16))
 }
 
-fn at_most_8(length: u8) -> usize
+fn at_most_8(length: u16) -> usize
     ensures { λ r. ⌜ r ≡ min length 8 ⌝ }
 {
     if length < 8 { length as usize } else { 8 }

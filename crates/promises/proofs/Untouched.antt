@@ -2,12 +2,12 @@
 use mathlib.Core.Path.{_≡_, refl, ap, sym, _∙_}
 use mathlib.Core.List.{List}
 use Prim.Native.Nat.{ℕ}
+use Rattle.answers.specs.Answers.{answering}
+use Rattle.answers.specs.declared.Answer.{Answer}
 use Rattle.basintilt.specs.Happenings.{eventOf, bytesIn}
 use Rattle.basintilt.specs.Lent.{stepOf, journalOf}
-use Rattle.device.specs.declared.Answer.{Answer}
 use Rattle.device.specs.declared.Device.{Device}
 use Rattle.device.specs.declared.Stepped.{Stepped}
-use Rattle.device.specs.Answers.{answering}
 use Rattle.device.specs.Seen.{seen, held}
 use Rattle.rules.proofs.Refusals.{Untouched, event-left, power-on-untouched, range-first, zero-out}
 use Rattle.rules.specs.Events.{event}

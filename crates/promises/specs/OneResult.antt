@@ -2,10 +2,10 @@
 use mathlib.Core.Path.{_≡_}
 use mathlib.Core.List.{List}
 use Prim.Native.Nat.{ℕ}
+use Rattle.answers.specs.declared.Answer.{Answer}
 use Rattle.basintilt.specs.declared.Happening.{Happening}
 use Rattle.basintilt.specs.Lent.{Lent}
 use Rattle.basintilt.specs.Told.{Told}
-use Rattle.device.specs.declared.Answer.{Answer}
 use Rattle.device.specs.declared.Device.{Device}
 use Rattle.device.specs.declared.Stepped.{Stepped}
 use Rattle.device.specs.Promise.{Answered, PoweredOn}

@@ -1,10 +1,9 @@
 -- "The answer is the new device record and 0 to 2 frames": the answer has room for two, and no frame is lost in it.
 use mathlib.Core.Path.{_≡_}
-use mathlib.Core.Bool.{cond}
-use mathlib.Core.List.{List, [], _∷_}
+use mathlib.Core.List.{List}
 use Prim.Native.Nat.{ℕ}
-use lib.Dec.{eqb}
-use Rattle.device.specs.declared.Answer.{Answer}
+use lib.ListN.{take}
+use Rattle.answers.specs.declared.Answer.{Answer}
 use Rattle.device.specs.declared.Device.{Device}
 use Rattle.device.specs.declared.Stepped.{Stepped}
 use Rattle.device.specs.Promise.{Answered, PoweredOn, eventOn}
@@ -15,7 +14,7 @@ use Rattle.rules.specs.PowerOn.{powerOn}
 
 -- the frames of an answer: as many as its count says
 abbrev pub framesIn : Answer → List Frame
-framesIn a = cond (eqb (a .count) 0) [] (cond (eqb (a .count) 1) (a .first ∷ []) (a .first ∷ a .second ∷ []))
+framesIn a = take (a .count) (a .frames)
 
 abbrev pub EventFrames : Type 0
 EventFrames =

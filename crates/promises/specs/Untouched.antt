@@ -2,9 +2,10 @@
 use mathlib.Core.Path.{_≡_}
 use mathlib.Core.List.{List, []}
 use Prim.Native.Nat.{ℕ}
+use lib.ListN.{replicate}
+use Rattle.answers.specs.declared.Answer.{Answer}
 use Rattle.basintilt.specs.declared.Happening.{Happening}
 use Rattle.basintilt.specs.Lent.{Lent}
-use Rattle.device.specs.declared.Answer.{Answer}
 use Rattle.device.specs.declared.Device.{Device}
 use Rattle.device.specs.declared.Stepped.{Stepped}
 use Rattle.device.specs.Promise.{Answered, PoweredOn}
@@ -13,10 +14,11 @@ use Rattle.rules.specs.declared.events.Event.{Event}
 use Rattle.rules.specs.declared.parts.Identity.{Identity}
 use Rattle.rules.specs.Frames.{noFrame}
 use Rattle.rules.specs.PowerOn.{zeroState}
+use Rattle.rules.specs.Results.{mostFrames}
 
--- a refusal and no frame: the count is 0 and both places are all zero
+-- a refusal and no frame: the count is 0 and every place is all zero
 abbrev pub silent : ℕ → Answer
-silent refusal = record { refusal = refusal; count = 0; first = noFrame; second = noFrame }
+silent refusal = record { refusal = refusal; count = 0; frames = replicate mostFrames noFrame }
 
 -- "leave record and journal as given"
 abbrev pub LentUntouched : Type 0

@@ -2,11 +2,12 @@
 ghost use mathlib.Core.Path.{_≡_};
 ghost use Rattle.rules.specs.Settings.{inTable};
 ghost use Rattle.rules.specs.Ranges;
-ghost use Rattle.rules.specs.Ranges.{nodeOk, networkOk, savesOk, codeOk, errorsOk, elapsedOk, syncsOk, countsOk, transferOk, axisOk};
+ghost use Rattle.rules.specs.Ranges.{nodeOk, networkOk, savesOk, codeOk, errorsOk, elapsedOk, syncsOk, countsOk, transferOk, transfersOk, axisOk};
 use rules::errors::ErrorList;
 use rules::parts::PdoCounts;
 use rules::parts::Reading;
 use rules::parts::Saves;
+use rules::parts::Transfer;
 use rules::settings::AxisSettings;
 use rules::settings::PdoSettings;
 use rules::settings::Settings;
@@ -41,6 +42,13 @@ pub fn node_ok(node: u32) -> bool
     (1 <= node) & (node <= MOST_NODE)
 }
 
+// The record's own node, in eight bits.
+pub fn own_node_ok(node: u8) -> bool
+    ensures { λ r. ⌜ r ≡ nodeOk node ⌝ }
+{
+    node_ok(node as u32)
+}
+
 pub fn network_ok(network: u8) -> bool
     ensures { λ r. ⌜ r ≡ networkOk network ⌝ }
 {
@@ -60,7 +68,7 @@ pub fn saves_ok(s: Saves) -> bool
 }
 
 // The code at a place of a list: past the list's end it is 0.
-fn code_ok(length: u8, place: u8, code: u16) -> bool
+fn code_ok(length: u16, place: u16, code: u16) -> bool
     ensures { λ r. ⌜ r ≡ codeOk length place code ⌝ }
 {
     if place < length {
@@ -99,13 +107,13 @@ pub fn elapsed_ok(period: u16, elapsed: u16) -> bool
     elapsed < period
 }
 
-fn syncs_ok(transmission: u8, syncs: u8) -> bool
+fn syncs_ok(transmission: u8, syncs: u16) -> bool
     ensures { λ r. ⌜ r ≡ syncsOk transmission syncs ⌝ }
 {
     if syncs == 0 {
         return true;
     }
-    (syncs < transmission) & (transmission <= PdoSettings::MOST_SYNCHRONOUS)
+    (syncs < (transmission as u16)) & (transmission <= PdoSettings::MOST_SYNCHRONOUS)
 }
 
 pub fn counts_ok(s: PdoSettings, c: PdoCounts) -> bool
@@ -117,10 +125,16 @@ pub fn counts_ok(s: PdoSettings, c: PdoCounts) -> bool
     syncs_ok(s.transmission, c.syncs)
 }
 
-pub fn transfer_ok(transfer: u8) -> bool
+fn transfer_ok(transfer: Transfer) -> bool
     ensures { λ r. ⌜ r ≡ transferOk transfer ⌝ }
 {
-    transfer <= states::AFTER_SEVEN
+    transfer.stage <= states::AFTER_SEVEN
+}
+
+pub fn transfers_ok(transfers: [Transfer; 2]) -> bool
+    ensures { λ r. ⌜ r ≡ transfersOk transfers ⌝ }
+{
+    transfer_ok(transfers[0]) & transfer_ok(transfers[1])
 }
 
 pub fn inside(m: i32) -> bool

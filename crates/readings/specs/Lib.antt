@@ -1,1 +1,3 @@
 pub mod Listed
+pub mod Axes
+pub mod Alarm

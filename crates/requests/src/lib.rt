@@ -1,9 +1,20 @@
 // What a request of eight bytes asks.
+use rules::events::FrameHead;
+use rules::objects::Channel;
 use rules::requests::Command;
 ghost use mathlib.Core.Path.{_≡_};
 ghost use Prim.Native.Nat.{_+_, _*_, _%_, _^_};
 ghost use Rattle.rules.specs.Numbers.{fourAt};
 ghost use Rattle.rules.specs.Requests.{commandOf, index as indexOf, subindex as subindexOf};
+ghost use Rattle.requests.specs.Frames.{requestTo, ruleOf};
+
+const MOST_IDENTIFIER: u32 = 0x7FF;
+
+const MOST_LENGTH: u8 = 8;
+
+const SYNC_AT: u32 = 0x80;
+
+const WHOLE_REQUEST: u8 = 8;
 
 pub fn command(first: u8) -> Command
     ensures { λ r. ⌜ r ≡ commandOf first ⌝ }
@@ -68,4 +79,48 @@ pub fn value(size: u8, request: [u8; 8]) -> u32
     ensures { λ r. ⌜ r ≡ fourAt request 4 % 256 ^ size ⌝ }
 {
     lowest(size, whole(request))
+}
+
+// The rule that names a received frame; a wrong one is refused, and what no rule names does nothing.
+pub enum Rule {
+    Wrong,
+    Nothing,
+    Network,
+    Sync,
+    Request(Channel),
+}
+
+// The channel that an identifier calls, with requests of eight bytes only.
+fn request_to(identifier: u32, length: u8, node: u8) -> Rule
+    ensures { λ r. ⌜ r ≡ requestTo identifier length node ⌝ }
+{
+    if length != WHOLE_REQUEST {
+        return Rule::Nothing;
+    }
+    if identifier == 0x600 + (node as u32) {
+        return Rule::Request(Channel::One);
+    }
+    if identifier == 0x680 + (node as u32) {
+        return Rule::Request(Channel::Two);
+    }
+    Rule::Nothing
+}
+
+pub fn rule_of(head: FrameHead, length: u8, node: u8) -> Rule
+    ensures { λ r. ⌜ r ≡ ruleOf head length node ⌝ }
+{
+    let identifier = head.identifier;
+    if !((identifier <= MOST_IDENTIFIER) & (length <= MOST_LENGTH)) {
+        return Rule::Wrong;
+    }
+    if head.remote {
+        return Rule::Nothing;
+    }
+    if identifier == 0 {
+        return Rule::Network;
+    }
+    if (identifier == SYNC_AT) & (length == 0) {
+        return Rule::Sync;
+    }
+    request_to(identifier, length, node)
 }

@@ -1,9 +1,10 @@
 // A row of the object table: an object's length in bytes, and whether it is written.
 use rules::objects::Fixed;
 use rules::objects::Object;
+use rules::objects::PdoSetting;
 use rules::objects::Setting;
 ghost use mathlib.Core.Path.{_≡_};
-ghost use Rattle.rules.specs.Objects.{rowOf, settingRow, fixedRow};
+ghost use Rattle.rules.specs.Objects.{pdoSize, rowOf, settingRow, fixedRow};
 
 pub fn fixed_size(f: Fixed) -> u8
     ensures { λ r. ⌜ r ≡ fixedRow f .size ⌝ }
@@ -14,10 +15,20 @@ pub fn fixed_size(f: Fixed) -> u8
         Fixed::LoadCount => 1,
         Fixed::IdentityCount => 1,
         Fixed::ServerCount(_) => 1,
-        Fixed::PdoCount => 1,
+        Fixed::PdoCount(_) => 1,
         Fixed::MappingCount => 1,
         Fixed::Blocks => 2,
         _ => 4,
+    }
+}
+
+fn pdo_size(part: PdoSetting) -> u8
+    ensures { λ r. ⌜ r ≡ pdoSize part ⌝ }
+{
+    match part {
+        PdoSetting::On => 4,
+        PdoSetting::Transmission => 1,
+        PdoSetting::Timer => 2,
     }
 }
 
@@ -25,8 +36,7 @@ pub fn setting_size(s: Setting) -> u8
     ensures { λ r. ⌜ r ≡ settingRow s .size ⌝ }
 {
     match s {
-        Setting::On => 4,
-        Setting::Transmission => 1,
+        Setting::Pdo(_, part) => pdo_size(part),
         Setting::Operating(_) => 1,
         _ => 2,
     }

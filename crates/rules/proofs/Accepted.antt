@@ -3,7 +3,6 @@ use mathlib.Core.Path.{_≡_, refl}
 use mathlib.Core.List.{List}
 use Prim.Native.Nat.{ℕ}
 use lib.IntN.{ℤ}
-use Rattle.laws.proofs.Bools.{cond-both}
 use Rattle.rules.specs.declared.events.FrameHead.{FrameHead}
 use Rattle.rules.specs.declared.objects.Axis.{Axis}
 use Rattle.rules.specs.declared.objects.Axis.the-variants.{X, Y}
@@ -13,7 +12,7 @@ use Rattle.rules.specs.Readings.{onReading}
 use Rattle.rules.specs.Results.{Result}
 use Rattle.rules.specs.State.{State}
 use Rattle.rules.proofs.EachEvent.{each-frame}
-use Rattle.rules.specs.Time.{syncCounts, onTick, onSync}
+use Rattle.rules.specs.Time.{onTick, onSync}
 
 module _ (u : State) where
   abbrev pub Accepted : Result → Type 0
@@ -25,7 +24,7 @@ module _ (u : State) where
 
   sync-accepted : Accepted (onSync u)
   unfolding onSync
-  sync-accepted = cond-both Accepted (syncCounts u) (refl, refl) (refl, refl)
+  sync-accepted = (refl, refl)
 
   pub tick-accepted : (ms : ℕ) → Accepted (onTick ms u)
   unfolding onTick

@@ -5,12 +5,14 @@ use mathlib.Core.List.{List}
 use Prim.Native.Nat.{ℕ}
 use lib.Dec.{eqb}
 use Rattle.rules.proofs.Table.{setting-of}
+use Rattle.rules.specs.declared.objects.Axis.the-variants.{X, Y}
 use Rattle.rules.specs.declared.objects.Channel.{Channel}
 use Rattle.rules.specs.declared.objects.Channel.the-variants.{One, Two}
+use Rattle.rules.specs.declared.objects.PdoNumber.the-variants.{First}
 use Rattle.rules.specs.declared.objects.Setting.{Setting}
 use Rattle.rules.specs.declared.requests.Command.{Command}
 use Rattle.rules.specs.declared.requests.Command.the-variants.{Write, Read, Segment, End, Unknown}
-use Rattle.rules.specs.Cells.{Cell, running, errors, kept, heartbeat, pdo, transfer, rest, Content, get, stateOf}
+use Rattle.rules.specs.Cells.{Cell, running, errors, kept, heartbeat, pdo, transfer, axis, rest, Content, get, stateOf}
 use Rattle.rules.specs.Objects.{settingRow}
 use Rattle.rules.specs.ReadsWrites.{Value, object, journal, is, readsBy, writesBy}
 use Rattle.rules.specs.Requests.{command, index, subindex}
@@ -46,8 +48,9 @@ uses c k i s (running t) = readsBy k i s (objectOf t) || writesBy k i s (objectO
 uses c k i s errors = names k && eqb i 0x1003
 uses c k i s kept = readsBy k i s journal || writesBy k i s journal
 uses c k i s heartbeat = false
-uses c k i s pdo = false
+uses c k i s (pdo n) = false
 uses c k i s (transfer b) = sameChannel c b
+uses c k i s (axis a) = true
 uses c k i s rest = true
 
 -- and may change these; the counts too, which are only ever zeroed
@@ -56,8 +59,9 @@ alters c k i s (running t) = writesBy k i s (objectOf t)
 alters c k i s errors = isWrite k && is i s 0x1003 0
 alters c k i s kept = writesBy k i s journal
 alters c k i s heartbeat = true
-alters c k i s pdo = true
+alters c k i s (pdo n) = true
 alters c k i s (transfer b) = sameChannel c b
+alters c k i s (axis a) = false
 alters c k i s rest = false
 
 -- the cells of a request by its bytes
@@ -73,9 +77,11 @@ get-of f (running s) = setting-of (λ s. f (running s)) s
 get-of f errors = refl
 get-of f kept = refl
 get-of f heartbeat = refl
-get-of f pdo = refl
+get-of f (pdo First) = refl
 get-of f (transfer One) = refl
 get-of f (transfer Two) = refl
+get-of f (axis X) = refl
+get-of f (axis Y) = refl
 get-of f rest = refl
 
 -- and the same cells make the same state

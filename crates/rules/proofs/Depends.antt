@@ -1,11 +1,12 @@
 -- A request's outcome depends on what the request reads and writes, on its channel's transfer and on what no request changes, alone.
-use mathlib.Core.Path.{_≡_, refl, ap, subst₂}
+use mathlib.Core.Path.{_≡_, refl, ap, sym, _∙_, subst, subst₂}
 use mathlib.Core.Bool.{Bool, true, false, cond, _&&_, _||_}
 use mathlib.Core.List.{List}
 use Prim.Native.Nat.{ℕ}
 use lib.Dec.{T, eqb, eqb-refl}
 use Rattle.laws.proofs.Bools.{or-left, or-right}
 use Rattle.rules.proofs.Cells.{names, uses, usesOf}
+use Rattle.rules.proofs.EachOutcome.{each-outcome}
 use Rattle.rules.proofs.Named.{Names, named}
 use Rattle.rules.specs.declared.objects.Axis.{Axis}
 use Rattle.rules.specs.declared.objects.Axis.the-variants.{X, Y}
@@ -15,22 +16,27 @@ use Rattle.rules.specs.declared.objects.Found.{Found}
 use Rattle.rules.specs.declared.objects.Found.the-variants.{At, NoObject, NoSubindex}
 use Rattle.rules.specs.declared.objects.Object.{Object}
 use Rattle.rules.specs.declared.objects.Object.the-variants.{Const, ErrorCount, ErrorEntry, Name, Save, Load, Filled, Angle, Of}
+use Rattle.rules.specs.declared.objects.PdoNumber.the-variants.{First}
+use Rattle.rules.specs.declared.objects.PdoSetting.the-variants.{On, Transmission, Timer}
 use Rattle.rules.specs.declared.objects.Setting.{Setting}
-use Rattle.rules.specs.declared.objects.Setting.the-variants.{Heartbeat, On, Transmission, Timer, Resolution, Operating, Preset, Offset, Differential}
+use Rattle.rules.specs.declared.objects.Setting.the-variants.{Heartbeat, Pdo, Resolution, Operating, Preset, Offset, Differential}
 use Rattle.rules.specs.declared.requests.Command.{Command}
 use Rattle.rules.specs.declared.requests.Command.the-variants.{Write, Read, Segment, End, Unknown}
 use Rattle.rules.specs.declared.requests.Got.the-variants.{Number}
-use Rattle.rules.specs.declared.requests.Change.the-variants.{Fill}
-use Rattle.rules.specs.Block.{save}
-use Rattle.rules.specs.Cells.{Rest, Cell, running, errors, kept, transfer, rest, get}
+use Rattle.rules.specs.declared.requests.Outcome.{Outcome}
+use Rattle.rules.specs.declared.requests.Zeroed.{Zeroed}
+use Rattle.rules.specs.declared.requests.Zeroed.the-variants.{To, Refused}
+use Rattle.rules.specs.declared.settings.Settings.{Settings}
+use Rattle.rules.specs.Cells.{Cell, running, errors, kept, transfer, axis, rest, get}
+use Rattle.rules.specs.Errors.{register}
 use Rattle.rules.specs.Objects.{rowOf, fixedRow, settingRow, objectAt}
 use Rattle.rules.specs.Reads.{readOf, fixedValue, settingValue}
 use Rattle.rules.specs.ReadsWrites.{object, same, readsBy, writesBy}
 use Rattle.rules.specs.Requests.{command, index, subindex, valueFor}
-use Rattle.rules.specs.Service.{onCommand, onRead, onSegment, outcome, served, silent}
-use Rattle.rules.specs.Settings.{setting, settingsOf}
+use Rattle.rules.specs.Service.{onCommand, onRead, onSegment, outcome, served, silent, stores}
+use Rattle.rules.specs.Settings.{factory, setting, settingsOf}
 use Rattle.rules.specs.State.{State}
-use Rattle.rules.specs.Writes.{zeroedBy, settingCheck, stateCheck, writeCheck, settingChange, change}
+use Rattle.rules.specs.Writes.{zeroedBy, zeroChange, settingCheck, stateCheck, writeCheck, settingChange, change}
 
 -- two states alike in what a request uses
 abbrev pub Alike : Channel → Command → ℕ → ℕ → State → State → Type 0
@@ -57,11 +63,15 @@ module _ (c : Channel) (u w : State) where
 
   -- "6010 also reads 6000, 6011, 6013, 6014; Y likewise"
   angle-alike : (a : Axis) → For Read (Angle a) → readOf (Angle a) u ≡ readOf (Angle a) w
-  angle-alike X h = cc (h rest tt, h (running Resolution) tt, h (running (Operating X)) tt, h (running (Offset X)) tt, h (running (Differential X)) tt)
-  angle-alike Y h = cc (h rest tt, h (running Resolution) tt, h (running (Operating Y)) tt, h (running (Offset Y)) tt, h (running (Differential Y)) tt)
+  angle-alike X h = cc (h (axis X) tt, h (running Resolution) tt, h (running (Operating X)) tt, h (running (Offset X)) tt, h (running (Differential X)) tt)
+  angle-alike Y h = cc (h (axis Y) tt, h (running Resolution) tt, h (running (Operating Y)) tt, h (running (Offset Y)) tt, h (running (Differential Y)) tt)
 
   read-alike : (o : Object) → For Read o → readOf o u ≡ readOf o w
-  read-alike (Const f) h = ap (λ (t : Rest). Number (fixedRow f .size) (fixedValue f t)) (h rest tt)
+  read-alike (Const f) h =
+      let t = h rest tt in
+      let x = h (axis X) tt in
+      let y = h (axis Y) tt in
+      λ i. Number (fixedRow f .size) (fixedValue f (register (t i .spoiled) (x i .state) (y i .state)) (t i))
   read-alike ErrorCount h = cc (h errors tt)
   read-alike (ErrorEntry n) h = cc (h errors tt)
   read-alike Name h = refl
@@ -77,14 +87,12 @@ module _ (c : Channel) (u w : State) where
   module _ (given : ℕ) where
     -- "6012 also reads 6000, 6011, 6014"
     zeroed-alike : (a : Axis) (v : ℕ) → For (Write given) (Of (Preset a)) → zeroedBy a v u ≡ zeroedBy a v w
-    zeroed-alike X v h = cc (h rest tt, h (running Resolution) tt, h (running (Operating X)) tt, h (running (Differential X)) tt)
-    zeroed-alike Y v h = cc (h rest tt, h (running Resolution) tt, h (running (Operating Y)) tt, h (running (Differential Y)) tt)
+    zeroed-alike X v h = cc (h (axis X) tt, h (running Resolution) tt, h (running (Operating X)) tt, h (running (Differential X)) tt)
+    zeroed-alike Y v h = cc (h (axis Y) tt, h (running Resolution) tt, h (running (Operating Y)) tt, h (running (Differential Y)) tt)
 
     setting-alike : (s : Setting) (v : ℕ) → For (Write given) (Of s) → (settingCheck s v u ≡ settingCheck s v w) × (settingChange s v u ≡ settingChange s v w)
     setting-alike Heartbeat v h = (refl, refl)
-    setting-alike On v h = (refl, refl)
-    setting-alike Transmission v h = (refl, refl)
-    setting-alike Timer v h = (refl, refl)
+    setting-alike (Pdo n p) v h = (refl, refl)
     setting-alike Resolution v h = (refl, refl)
     setting-alike (Operating a) v h = (refl, refl)
     setting-alike (Preset a) v h = let e = zeroed-alike a v h in (rw e, rw e)
@@ -94,9 +102,9 @@ module _ (c : Channel) (u w : State) where
     -- "1010:1 reads every setting"
     saved-alike : For (Write given) Save → (s : Setting) → setting s (u .running) ≡ setting s (w .running)
     saved-alike h Heartbeat = h (running Heartbeat) tt
-    saved-alike h On = h (running On) tt
-    saved-alike h Transmission = h (running Transmission) tt
-    saved-alike h Timer = h (running Timer) tt
+    saved-alike h (Pdo First On) = h (running (Pdo First On)) tt
+    saved-alike h (Pdo First Transmission) = h (running (Pdo First Transmission)) tt
+    saved-alike h (Pdo First Timer) = h (running (Pdo First Timer)) tt
     saved-alike h Resolution = h (running Resolution) tt
     saved-alike h (Operating X) = h (running (Operating X)) tt
     saved-alike h (Operating Y) = h (running (Operating Y)) tt
@@ -112,7 +120,7 @@ module _ (c : Channel) (u w : State) where
     write-alike ErrorCount v h = (refl, refl)
     write-alike (ErrorEntry n) v h = (refl, refl)
     write-alike Name v h = (refl, refl)
-    write-alike Save v h = (cc (h rest tt, h kept tt), λ i. Fill c save (settingsOf (λ s. saved-alike h s i)))
+    write-alike Save v h = (cc (h rest tt, h kept tt), refl)
     write-alike Load v h = (cc (h rest tt, h kept tt), refl)
     write-alike Filled v h = (refl, refl)
     write-alike (Angle a) v h = (refl, refl)
@@ -120,6 +128,31 @@ module _ (c : Channel) (u w : State) where
 
     check-alike : (o : Object) (v : ℕ) → For (Write given) o → writeCheck given o v u ≡ writeCheck given o v w
     check-alike o v h = cc (h rest tt, write-alike o v h .0)
+
+    -- the settings beside a change: a save's are the running ones, and no other change stores what runs
+    zero-stores : (a : Axis) (v : ℕ) (z : Zeroed) (t : Settings) → stores (zeroChange a v z) t ≡ factory
+    zero-stores a v (To offset) t = refl
+    zero-stores a v (Refused code) t = refl
+
+    setting-stores : (s : Setting) (v : ℕ) (z : State) (t : Settings) → stores (settingChange s v z) t ≡ factory
+    setting-stores Heartbeat v z t = refl
+    setting-stores (Pdo n p) v z t = refl
+    setting-stores Resolution v z t = refl
+    setting-stores (Operating a) v z t = refl
+    setting-stores (Preset a) v z t = zero-stores a v (zeroedBy a v z) t
+    setting-stores (Offset a) v z t = refl
+    setting-stores (Differential a) v z t = refl
+
+    change-stores : (o : Object) (v : ℕ) (z : State) → For (Write given) o → stores (change c o v z) (u .running) ≡ stores (change c o v z) (w .running)
+    change-stores (Const f) v z h = refl
+    change-stores ErrorCount v z h = refl
+    change-stores (ErrorEntry n) v z h = refl
+    change-stores Name v z h = refl
+    change-stores Save v z h = λ i. settingsOf (λ s. saved-alike h s i)
+    change-stores Load v z h = refl
+    change-stores Filled v z h = refl
+    change-stores (Angle a) v z h = refl
+    change-stores (Of s) v z h = setting-stores s v z (u .running) ∙ sym (setting-stores s v z (w .running))
 
   command-alike : (request : List ℕ) (k : Command) (i s : ℕ) (f : Found) → Names f i s → Alike c k i s u w → onCommand c request k f u ≡ onCommand c request k f w
   command-alike request (Write given) i s (At o) n h =
@@ -148,3 +181,27 @@ outcome-alike c request u w h =
     mine : (c : Channel) → T (uses c (command request) (index request) (subindex request) (transfer c))
     mine One = tt
     mine Two = tt
+
+-- and so do the settings beside its change
+pub stores-alike : (c : Channel) (request : List ℕ) (u w : State) → ((cell : Cell) → T (usesOf c request cell) → get cell u ≡ get cell w)
+    → stores (outcome c request u .change) (u .running) ≡ stores (outcome c request w .change) (w .running)
+stores-alike c request u w h =
+    each-outcome c request u (λ (o : Outcome). stores (o .change) (u .running) ≡ stores (o .change) (w .running))
+    (record {
+      aborted = λ code. refl;
+      wrote = λ given o p q e. change-stores c u w given o (valueFor o request) u (its given o p q);
+      number = λ size n. refl;
+      text = refl;
+      first = refl;
+      last = refl;
+      toggle = refl;
+      missing = refl;
+      ended = refl;
+      unserved = refl;
+    })
+    ∙ ap (λ (o : Outcome). stores (o .change) (w .running)) (outcome-alike c request u w h)
+  where
+    its : (given : ℕ) (o : Object) → command request ≡ Write given → objectAt (index request) (subindex request) ≡ At o → For c u w (Write given) o
+    its given o p q =
+        let n = subst (λ (f : Found). Names f (index request) (subindex request)) q (named (index request) (subindex request)) in
+        subst₂ (λ (i s : ℕ). Alike c (Write given) i s u w) (n .0) (n .1) (subst (λ (k : Command). Alike c k (index request) (subindex request) u w) p h)

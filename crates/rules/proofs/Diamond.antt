@@ -6,20 +6,22 @@ use Prim.Native.Nat.{ℕ}
 use lib.Dec.{T, eqb, eqb→eq}
 use Rattle.laws.proofs.Bools.{parts, or-right}
 use Rattle.rules.proofs.Cells.{sameChannel, objectOf, names, isWrite, usesOf, altersOf, get-of, of-same}
-use Rattle.rules.proofs.Depends.{own, outcome-alike}
+use Rattle.rules.proofs.Depends.{own, outcome-alike, stores-alike}
 use Rattle.rules.proofs.Leaves.{outcome-left}
 use Rattle.rules.specs.declared.objects.Channel.{Channel}
 use Rattle.rules.specs.declared.objects.Channel.the-variants.{One, Two}
+use Rattle.rules.specs.declared.objects.PdoNumber.{PdoNumber}
 use Rattle.rules.specs.declared.parts.PdoCounts.{PdoCounts}
 use Rattle.rules.specs.declared.requests.Change.{Change}
 use Rattle.rules.specs.declared.requests.Change.the-variants.{Keep, Put, Zero, Empty, Fill}
 use Rattle.rules.specs.declared.requests.Command.{Command}
 use Rattle.rules.specs.declared.requests.Command.the-variants.{Write, Read, Segment, End, Unknown}
-use Rattle.rules.specs.Cells.{Cell, running, errors, kept, heartbeat, pdo, transfer, rest, Content, get, stateOf}
-use Rattle.rules.specs.Objects.{settingRow}
+use Rattle.rules.specs.declared.settings.Settings.{Settings}
+use Rattle.rules.specs.Cells.{Cell, running, errors, kept, heartbeat, pdo, transfer, axis, rest, Content, get, stateOf}
+use Rattle.rules.specs.Objects.{settingRow, onPdo}
 use Rattle.rules.specs.ReadsWrites.{object, journal, same, is, reads, writes, writesBy, Clear, Apart}
 use Rattle.rules.specs.Requests.{command, index, subindex}
-use Rattle.rules.specs.Service.{outcome, onHeartbeat, onPdo, act, after}
+use Rattle.rules.specs.Service.{outcome, stores, onHeartbeat, onCounts, act, after}
 use Rattle.rules.specs.State.{State, noCounts}
 
 -- whoever empties the error list writes all of 1003, and names one object there
@@ -55,21 +57,21 @@ zeroes i Keep = false
 zeroes i (Put s v) = eqb (settingRow s .index) i
 zeroes i (Zero a preset offset) = false
 zeroes i Empty = false
-zeroes i (Fill c kind t) = false
+zeroes i (Fill c kind) = false
 
 heartbeat-is : (e : Change) (x : ℕ) → onHeartbeat e x ≡ cond (zeroes 0x1017 e) 0 x
 heartbeat-is Keep x = refl
 heartbeat-is (Put s v) x = refl
 heartbeat-is (Zero a preset offset) x = refl
 heartbeat-is Empty x = refl
-heartbeat-is (Fill c kind t) x = refl
+heartbeat-is (Fill c kind) x = refl
 
-pdo-is : (e : Change) (x : PdoCounts) → onPdo e x ≡ cond (zeroes 0x1800 e) noCounts x
-pdo-is Keep x = refl
-pdo-is (Put s v) x = refl
-pdo-is (Zero a preset offset) x = refl
-pdo-is Empty x = refl
-pdo-is (Fill c kind t) x = refl
+pdo-is : (n : PdoNumber) (e : Change) (x : PdoCounts) → onCounts n e x ≡ cond (zeroes (onPdo n) e) noCounts x
+pdo-is n Keep x = refl
+pdo-is n (Put s v) x = refl
+pdo-is n (Zero a preset offset) x = refl
+pdo-is n Empty x = refl
+pdo-is n (Fill c kind) x = refl
 
 zeroed-twice : {A : Type 0} (p q : Bool) (zero x : A) → cond p zero (cond q zero x) ≡ cond q zero (cond p zero x)
 zeroed-twice true true zero x = refl
@@ -80,8 +82,8 @@ zeroed-twice false false zero x = refl
 heartbeat-swaps : (e f : Change) (x : ℕ) → onHeartbeat e (onHeartbeat f x) ≡ onHeartbeat f (onHeartbeat e x)
 heartbeat-swaps e f x = simp heartbeat-is (zeroed-twice (zeroes 0x1017 e) (zeroes 0x1017 f) 0 x)
 
-pdo-swaps : (e f : Change) (x : PdoCounts) → onPdo e (onPdo f x) ≡ onPdo f (onPdo e x)
-pdo-swaps e f x = simp pdo-is (zeroed-twice (zeroes 0x1800 e) (zeroes 0x1800 f) noCounts x)
+pdo-swaps : (n : PdoNumber) (e f : Change) (x : PdoCounts) → onCounts n e (onCounts n f x) ≡ onCounts n f (onCounts n e x)
+pdo-swaps n e f x = simp (pdo-is n) (zeroed-twice (zeroes (onPdo n) e) (zeroes (onPdo n) f) noCounts x)
 
 -- the state after a request on a channel
 abbrev pub next : Channel → List ℕ → State → State
@@ -98,39 +100,58 @@ module _ (c d : Channel) (two : T (sameChannel c d) → ⊥) (a b : List ℕ) (c
       (own (command b) (index b) (subindex b) (n .0)))
   no-meeting kept p q = clear journal q p
   no-meeting heartbeat p q = p
-  no-meeting pdo p q = p
+  no-meeting (pdo n) p q = p
   no-meeting (transfer e) p q = two-transfers c d e two p q
+  no-meeting (axis a) p q = q
   no-meeting rest p q = q
 
   module _ (u : State) where
-    -- b's outcome is the same after a
+    -- the settings beside each one's change
+    abbrev mine : Settings
+    mine = stores (outcome c a u .change) (u .running)
+
+    abbrev other : Settings
+    other = stores (outcome d b u .change) (u .running)
+
+    abbrev first : (k : Cell) → Content k → Content k
+    first = act c (outcome c a u) mine
+
+    abbrev second : (k : Cell) → Content k → Content k
+    second = act d (outcome d b u) other
+
+    -- what b uses is the same after a, and so are its outcome and the settings beside it
+    unaltered : (k : Cell) → T (usesOf d b k) → get k (next c a u) ≡ get k u
+    unaltered k t = get-of (λ k. first k (get k u)) k ∙ outcome-left c a u mine k (get k u) (no-meeting k t)
+
     pub outcome-past : outcome d b (next c a u) ≡ outcome d b u
-    outcome-past =
-        outcome-alike d b (next c a u) u
-        (λ k t. get-of (λ k. act c (outcome c a u) k (get k u)) k ∙ outcome-left c a u k (get k u) (no-meeting k t))
+    outcome-past = outcome-alike d b (next c a u) u unaltered
+
+    stores-past : stores (outcome d b (next c a u) .change) (next c a u .running) ≡ other
+    stores-past = stores-alike d b (next c a u) u unaltered
 
     -- a cell that is no count is altered by one of the two at most
     one-alters : (k : Cell) (x : Content k) → (T (altersOf d b k) → T (altersOf c a k) → ⊥) → (t : Bool) → altersOf c a k ≡ t →
-        act d (outcome d b u) k (act c (outcome c a u) k x) ≡ act c (outcome c a u) k (act d (outcome d b u) k x)
+        second k (first k x) ≡ first k (second k x)
     one-alters k x m true e =
         let left : T (altersOf d b k) → ⊥ = λ h. m h (subst T (sym e) tt) in
-        outcome-left d b u k (act c (outcome c a u) k x) left ∙ ap (act c (outcome c a u) k) (sym (outcome-left d b u k x left))
+        outcome-left d b u other k (first k x) left ∙ ap (first k) (sym (outcome-left d b u other k x left))
     one-alters k x m false e =
         let left : T (altersOf c a k) → ⊥ = λ h. subst T e h in
-        ap (act d (outcome d b u) k) (outcome-left c a u k x left) ∙ sym (outcome-left c a u k (act d (outcome d b u) k x) left)
+        ap (second k) (outcome-left c a u mine k x left) ∙ sym (outcome-left c a u mine k (second k x) left)
 
-    swaps : (k : Cell) (x : Content k) → act d (outcome d b u) k (act c (outcome c a u) k x) ≡ act c (outcome c a u) k (act d (outcome d b u) k x)
+    swaps : (k : Cell) (x : Content k) → second k (first k x) ≡ first k (second k x)
     swaps (running t) x = one-alters (running t) x (λ h. no-meeting (running t) (or-right (reads b (objectOf t)) _ h)) _ refl
     swaps errors x = one-alters errors x (λ h. no-meeting errors (emptier-names (index b) (subindex b) (command b) h)) _ refl
     swaps kept x = one-alters kept x (λ h. no-meeting kept (or-right (reads b journal) _ h)) _ refl
     swaps heartbeat x = heartbeat-swaps (outcome d b u .change) (outcome c a u .change) x
-    swaps pdo x = pdo-swaps (outcome d b u .change) (outcome c a u .change) x
+    swaps (pdo n) x = pdo-swaps n (outcome d b u .change) (outcome c a u .change) x
     swaps (transfer e) x = one-alters (transfer e) x (no-meeting (transfer e)) _ refl
+    swaps (axis a) x = refl
     swaps rest x = refl
 
-    -- the state after both, by the outcomes that each has alone
-    both-act : next d b (next c a u) ≡ stateOf (λ k. act d (outcome d b u) k (act c (outcome c a u) k (get k u)))
-    both-act = of-same _ _ (λ k i. act d (outcome-past i) k (get-of (λ k. act c (outcome c a u) k (get k u)) k i))
+    -- the state after both, by what each does alone
+    both-act : next d b (next c a u) ≡ stateOf (λ k. second k (first k (get k u)))
+    both-act = of-same _ _ (λ k i. act d (outcome-past i) (stores-past i) k (get-of (λ k. first k (get k u)) k i))
 
 pub diamond : (c d : Channel) → (T (sameChannel c d) → ⊥) → (T (sameChannel d c) → ⊥) → (a b : List ℕ) → Apart a b → (u : State) →
     next d b (next c a u) ≡ next c a (next d b u)

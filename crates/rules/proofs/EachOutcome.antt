@@ -8,6 +8,7 @@ use Rattle.rules.specs.declared.objects.Channel.{Channel}
 use Rattle.rules.specs.declared.objects.Found.{Found}
 use Rattle.rules.specs.declared.objects.Found.the-variants.{At, NoObject, NoSubindex}
 use Rattle.rules.specs.declared.objects.Object.{Object}
+use Rattle.rules.specs.declared.parts.Transfer.{Transfer}
 use Rattle.rules.specs.declared.requests.Change.{Change}
 use Rattle.rules.specs.declared.requests.Change.the-variants.{Keep}
 use Rattle.rules.specs.declared.requests.Command.{Command}
@@ -23,7 +24,7 @@ use Rattle.rules.specs.Reads.{readOf}
 use Rattle.rules.specs.Replies.{written, readNumber, readText, firstSegment, lastSegment, wrongToggle, noTransfer}
 use Rattle.rules.specs.Requests.{command, index, subindex, valueFor}
 use Rattle.rules.specs.Service.{replied, silent, refuse, onWrite, onRead, onSegment, onCommand, outcome, served}
-use Rattle.rules.specs.State.{State, absent, atStart, afterSeven}
+use Rattle.rules.specs.State.{State, absent, atStart, afterSeven, transferring}
 use Rattle.rules.specs.Writes.{change, writeCheck}
 
 module _ (c : Channel) (request : List ℕ) (u : State) (P : Outcome → Type 0) where
@@ -38,7 +39,7 @@ module _ (c : Channel) (request : List ℕ) (u : State) (P : Outcome → Type 0)
     pub last : P (replied lastSegment absent Keep)
     pub toggle : P (replied wrongToggle absent Keep)
     pub missing : P (replied noTransfer absent Keep)
-    pub ended : P (silent absent)
+    pub ended : P (silent (transferring absent))
     pub unserved : P (silent (get (transfer c) u))
 
   module _ (each : Each) where
@@ -51,11 +52,11 @@ module _ (c : Channel) (request : List ℕ) (u : State) (P : Outcome → Type 0)
     reads Text = each .text
     reads (Missing code) = each .aborted code
 
-    segments : (toggle t : ℕ) → P (onSegment toggle t)
+    segments : (toggle : ℕ) (t : Transfer) → P (onSegment toggle t)
     unfolding onSegment
     segments toggle t =
-        cond-both P (eqb t absent) (each .missing)
-        (cond-both P (eqb t atStart) (cond-both P (eqb toggle 0) (each .first) (each .toggle)) (cond-both P (eqb toggle 1) (each .last) (each .toggle)))
+        cond-both P (eqb (t .stage) absent) (each .missing)
+        (cond-both P (eqb (t .stage) atStart) (cond-both P (eqb toggle 0) (each .first) (each .toggle)) (cond-both P (eqb toggle 1) (each .last) (each .toggle)))
 
     commands : (k : Command) (f : Found) → command request ≡ k → objectAt (index request) (subindex request) ≡ f → P (onCommand c request k f u)
     commands (Write given) (At o) p q = writes (writeCheck given o (valueFor o request) u) (change c o (valueFor o request) u) (each .wrote given o p q)

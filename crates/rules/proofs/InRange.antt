@@ -5,7 +5,7 @@ use mathlib.Core.List.{List, [], _∷_}
 use Prim.Native.Nat.{ℕ}
 use lib.ListN.{getD}
 use Rattle.laws.proofs.Bools.{one-of}
-use Rattle.rules.specs.Ranges.{inRange, nodeOk, networkOk, savesOk, errorsOk, elapsedOk, countsOk, transferOk, axisOk}
+use Rattle.rules.specs.Ranges.{inRange, nodeOk, networkOk, savesOk, errorsOk, elapsedOk, countsOk, transfersOk, axisOk}
 use Rattle.rules.specs.Settings.{inTable}
 use Rattle.rules.specs.State.{State}
 
@@ -17,8 +17,7 @@ pub record InRange (u : State) : Type 0 where
   pub errors : errorsOk (u .errors) ≡ true
   pub heartbeat : elapsedOk (u .running .heartbeat) (u .heartbeat) ≡ true
   pub pdo : countsOk (u .running .pdo) (u .pdo) ≡ true
-  pub one : transferOk (u .one) ≡ true
-  pub two : transferOk (u .two) ≡ true
+  pub transfers : transfersOk (u .transfers) ≡ true
   pub x : axisOk (u .x) ≡ true
   pub y : axisOk (u .y) ≡ true
 
@@ -28,7 +27,7 @@ parts u e =
     let rest : List Bool =
     networkOk (u .network) ∷ savesOk (u .saves) ∷ inTable (u .running) ∷ errorsOk (u .errors) ∷
     elapsedOk (u .running .heartbeat) (u .heartbeat) ∷ countsOk (u .running .pdo) (u .pdo) ∷
-    transferOk (u .one) ∷ transferOk (u .two) ∷ axisOk (u .x) ∷ axisOk (u .y) ∷ [] in
+    transfersOk (u .transfers) ∷ axisOk (u .x) ∷ axisOk (u .y) ∷ [] in
     let at : (i : ℕ) → getD (nodeOk (u .node) ∷ rest) i true ≡ true = one-of (nodeOk (u .node)) rest e in
     record {
       node = at 0;
@@ -38,13 +37,12 @@ parts u e =
       errors = at 4;
       heartbeat = at 5;
       pdo = at 6;
-      one = at 7;
-      two = at 8;
-      x = at 9;
-      y = at 10;
+      transfers = at 7;
+      x = at 8;
+      y = at 9;
     }
 
 pub together : (u : State) → InRange u → inRange u ≡ true
 unfolding inRange
 together u r =
-    simp (r .node, r .network, r .saves, r .running, r .errors, r .heartbeat, r .pdo, r .one, r .two, r .x, r .y)
+    simp (r .node, r .network, r .saves, r .running, r .errors, r .heartbeat, r .pdo, r .transfers, r .x, r .y)

@@ -18,7 +18,8 @@ use Rattle.rules.specs.declared.objects.Found.the-variants.{At}
 use Rattle.rules.specs.declared.objects.Object.{Object}
 use Rattle.rules.specs.declared.objects.Object.the-variants.{Const, ErrorCount, ErrorEntry, Name, Save, Load, Filled, Angle, Of}
 use Rattle.rules.specs.declared.objects.Setting.{Setting}
-use Rattle.rules.specs.declared.objects.Setting.the-variants.{Heartbeat, On, Transmission, Timer, Resolution, Operating, Preset, Offset, Differential}
+use Rattle.rules.specs.declared.objects.Setting.the-variants.{Heartbeat, Pdo, Resolution, Operating, Preset, Offset, Differential}
+use Rattle.rules.specs.declared.parts.Transfer.{Transfer}
 use Rattle.rules.specs.declared.requests.Change.{Change}
 use Rattle.rules.specs.declared.requests.Change.the-variants.{Keep, Put, Fill}
 use Rattle.rules.specs.declared.requests.Command.{Command}
@@ -27,13 +28,13 @@ use Rattle.rules.specs.declared.requests.Zeroed.{Zeroed}
 use Rattle.rules.specs.declared.requests.Zeroed.the-variants.{To, Refused}
 use Rattle.rules.specs.declared.settings.Settings.{Settings}
 use Rattle.rules.specs.Block.{save, load}
-use Rattle.rules.specs.Cells.{Kept, Cell, running, errors, kept, heartbeat, pdo, transfer, rest, Content}
+use Rattle.rules.specs.Cells.{Kept, Cell, running, errors, kept, heartbeat, pdo, transfer, axis, rest, Content}
 use Rattle.rules.specs.Numbers.{signed}
 use Rattle.rules.specs.Objects.{sameObject, settingRow, rowOf, objectAt}
 use Rattle.rules.specs.ReadsWrites.{journal, is, writesBy}
 use Rattle.rules.specs.Requests.{command, index, subindex, valueFor}
 use Rattle.rules.specs.Service.{outcome, valued, zeroedAt, onSetting, onErrors, onKept, onTransfer, act}
-use Rattle.rules.specs.Settings.{Held, factory}
+use Rattle.rules.specs.Settings.{Held}
 use Rattle.rules.specs.State.{State}
 use Rattle.rules.specs.Writes.{zeroedBy, zeroChange, settingChange, change}
 
@@ -41,10 +42,10 @@ use Rattle.rules.specs.Writes.{zeroedBy, zeroChange, settingChange, chan
 pub record Leaves (k : Command) (i s : ℕ) (e : Change) : Type 0 where
   pub running : (t : Setting) (x : Held t) → (T (writesBy k i s (objectOf t)) → ⊥) → onSetting e t x ≡ x
   pub errors : (x : ErrorList) → (T (isWrite k && is i s 0x1003 0) → ⊥) → onErrors e x ≡ x
-  pub kept : (x : Kept) → (T (writesBy k i s journal) → ⊥) → onKept e x ≡ x
+  pub kept : (t : Settings) (x : Kept) → (T (writesBy k i s journal) → ⊥) → onKept e t x ≡ x
 
 keep-leaves : (k : Command) (i s : ℕ) → Leaves k i s Keep
-keep-leaves k i s = record { running = λ t x h. refl; errors = λ x h. refl; kept = λ x h. refl }
+keep-leaves k i s = record { running = λ t x h. refl; errors = λ x h. refl; kept = λ t x h. refl }
 
 module _ (given : ℕ) where
   abbrev Written : Object → Change → Type 0
@@ -55,7 +56,7 @@ module _ (given : ℕ) where
   put-leaves s v = record {
     running = λ t x h. unless t x (sameObject (settingRow t) (settingRow s)) _ h;
     errors = λ x h. refl;
-    kept = λ x h. refl;
+    kept = λ t x h. refl;
   }
     where
       unless : (t : Setting) (x : Held t) (a b : Bool) → (T (a || b) → ⊥) → cond a (valued t v) x ≡ x
@@ -66,9 +67,7 @@ module _ (given : ℕ) where
   zero-leaves : (a : Axis) (preset offset : ℤ) (t : Setting) (x : Held t) →
       (T (writesBy (Write given) (settingRow (Preset a) .index) 0 (objectOf t)) → ⊥) → zeroedAt a preset offset t x ≡ x
   zero-leaves a preset offset Heartbeat x h = refl
-  zero-leaves a preset offset On x h = refl
-  zero-leaves a preset offset Transmission x h = refl
-  zero-leaves a preset offset Timer x h = refl
+  zero-leaves a preset offset (Pdo n p) x h = refl
   zero-leaves a preset offset Resolution x h = refl
   zero-leaves a preset offset (Operating b) x h = refl
   zero-leaves X preset offset (Preset X) x h = absurd (h tt)
@@ -82,15 +81,13 @@ module _ (given : ℕ) where
   zero-leaves a preset offset (Differential b) x h = refl
 
   preset-leaves : (a : Axis) (v : ℕ) (z : Zeroed) → Written (Of (Preset a)) (zeroChange a v z)
-  preset-leaves a v (To offset) = record { running = zero-leaves a (signed 16 v) offset; errors = λ x h. refl; kept = λ x h. refl }
+  preset-leaves a v (To offset) = record { running = zero-leaves a (signed 16 v) offset; errors = λ x h. refl; kept = λ t x h. refl }
   preset-leaves a v (Refused code) = keep-leaves (Write given) _ 0
 
   module _ (c : Channel) (v : ℕ) (u : State) where
     setting-leaves : (s : Setting) → Written (Of s) (settingChange s v u)
     setting-leaves Heartbeat = put-leaves Heartbeat v
-    setting-leaves On = put-leaves On v
-    setting-leaves Transmission = put-leaves Transmission v
-    setting-leaves Timer = put-leaves Timer v
+    setting-leaves (Pdo n p) = put-leaves (Pdo n p) v
     setting-leaves Resolution = put-leaves Resolution v
     setting-leaves (Operating a) = put-leaves (Operating a) v
     setting-leaves (Preset a) = preset-leaves a v (zeroedBy a v u)
@@ -98,17 +95,17 @@ module _ (given : ℕ) where
     setting-leaves (Differential a) = put-leaves (Differential a) v
 
     -- "1010:1 … writes the journal; 1011:1 writes the journal"
-    fill-leaves : (o : Object) (kind : ℕ) (t : Settings) → T (writesBy (Write given) (rowOf o .index) (rowOf o .subindex) journal) → Written o (Fill c kind t)
-    fill-leaves o kind t w = record { running = λ s x h. refl; errors = λ x h. refl; kept = λ x h. absurd (h w) }
+    fill-leaves : (o : Object) (kind : ℕ) → T (writesBy (Write given) (rowOf o .index) (rowOf o .subindex) journal) → Written o (Fill c kind)
+    fill-leaves o kind w = record { running = λ s x h. refl; errors = λ x h. refl; kept = λ t x h. absurd (h w) }
 
     -- "1003:0 all of 1003"
     change-leaves : (o : Object) → Written o (change c o v u)
     change-leaves (Const f) = keep-leaves (Write given) _ _
-    change-leaves ErrorCount = record { running = λ t x h. refl; errors = λ x h. absurd (h tt); kept = λ x h. refl }
+    change-leaves ErrorCount = record { running = λ t x h. refl; errors = λ x h. absurd (h tt); kept = λ t x h. refl }
     change-leaves (ErrorEntry n) = keep-leaves (Write given) _ n
     change-leaves Name = keep-leaves (Write given) _ _
-    change-leaves Save = fill-leaves Save save (u .running) tt
-    change-leaves Load = fill-leaves Load load factory tt
+    change-leaves Save = fill-leaves Save save tt
+    change-leaves Load = fill-leaves Load load tt
     change-leaves Filled = keep-leaves (Write given) _ _
     change-leaves (Angle a) = keep-leaves (Write given) _ _
     change-leaves (Of s) = setting-leaves s
@@ -140,18 +137,19 @@ module _ (c : Channel) (request : List ℕ) (u : State) where
         unserved = keeps;
       })
 
-transfer-left : (c b : Channel) (next x : ℕ) → (T (sameChannel c b) → ⊥) → onTransfer c b next x ≡ x
+transfer-left : (c b : Channel) (next x : Transfer) → (T (sameChannel c b) → ⊥) → onTransfer c b next x ≡ x
 transfer-left One One next x h = absurd (h tt)
 transfer-left One Two next x h = refl
 transfer-left Two One next x h = refl
 transfer-left Two Two next x h = absurd (h tt)
 
-pub outcome-left : (c : Channel) (request : List ℕ) (u : State) (cell : Cell) (x : Content cell) →
-    (T (altersOf c request cell) → ⊥) → act c (outcome c request u) cell x ≡ x
-outcome-left c request u (running t) x h = outcome-leaves c request u .running t x h
-outcome-left c request u errors x h = outcome-leaves c request u .errors x h
-outcome-left c request u kept x h = outcome-leaves c request u .kept x h
-outcome-left c request u heartbeat x h = absurd (h tt)
-outcome-left c request u pdo x h = absurd (h tt)
-outcome-left c request u (transfer b) x h = transfer-left c b (outcome c request u .transfer) x h
-outcome-left c request u rest x h = refl
+pub outcome-left : (c : Channel) (request : List ℕ) (u : State) (t : Settings) (cell : Cell) (x : Content cell) →
+    (T (altersOf c request cell) → ⊥) → act c (outcome c request u) t cell x ≡ x
+outcome-left c request u t (running s) x h = outcome-leaves c request u .running s x h
+outcome-left c request u t errors x h = outcome-leaves c request u .errors x h
+outcome-left c request u t kept x h = outcome-leaves c request u .kept t x h
+outcome-left c request u t heartbeat x h = absurd (h tt)
+outcome-left c request u t (pdo n) x h = absurd (h tt)
+outcome-left c request u t (transfer b) x h = transfer-left c b (outcome c request u .transfer) x h
+outcome-left c request u t (axis a) x h = refl
+outcome-left c request u t rest x h = refl

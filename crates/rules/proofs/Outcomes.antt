@@ -13,8 +13,9 @@ use Rattle.rules.specs.declared.objects.Axis.{Axis}
 use Rattle.rules.specs.declared.objects.Channel.{Channel}
 use Rattle.rules.specs.declared.objects.Object.{Object}
 use Rattle.rules.specs.declared.objects.Object.the-variants.{Const, ErrorCount, ErrorEntry, Name, Save, Load, Filled, Angle, Of}
+use Rattle.rules.specs.declared.objects.PdoSetting.the-variants.{On, Transmission, Timer}
 use Rattle.rules.specs.declared.objects.Setting.{Setting}
-use Rattle.rules.specs.declared.objects.Setting.the-variants.{Heartbeat, On, Transmission, Timer, Resolution, Operating, Preset, Offset, Differential}
+use Rattle.rules.specs.declared.objects.Setting.the-variants.{Heartbeat, Pdo, Resolution, Operating, Preset, Offset, Differential}
 use Rattle.rules.specs.declared.parts.Reading.{Reading}
 use Rattle.rules.specs.declared.requests.Change.{Change}
 use Rattle.rules.specs.declared.requests.Change.the-variants.{Keep, Put, Zero, Empty, Fill}
@@ -23,20 +24,19 @@ use Rattle.rules.specs.declared.requests.Verdict.{Verdict}
 use Rattle.rules.specs.declared.requests.Verdict.the-variants.{Pass, Abort}
 use Rattle.rules.specs.declared.requests.Zeroed.{Zeroed}
 use Rattle.rules.specs.declared.requests.Zeroed.the-variants.{To, Refused}
-use Rattle.rules.specs.declared.settings.Settings.{Settings}
 use Rattle.rules.specs.Angle.{offset, zeroed}
 use Rattle.rules.specs.Block.{save, load}
-use Rattle.rules.specs.Cells.{running, rest, transfer, get, readingIn}
+use Rattle.rules.specs.Cells.{running, axis, transfer, get}
 use Rattle.rules.specs.Numbers.{between, fourAt, fits, signed}
 use Rattle.rules.specs.Objects.{rowOf, settingRow}
 use Rattle.rules.specs.Requests.{valueFor}
 use Rattle.rules.specs.Service.{outcome, valued}
-use Rattle.rules.specs.Settings.{within, inTable, factory}
+use Rattle.rules.specs.Settings.{within}
 use Rattle.rules.specs.State.{State, good}
 use Rattle.rules.specs.Writes.{_then_, unless, roomCheck, accepts, zeroedBy, zeroChange, settingChange, change, stateCheck, writeCheck, lengthCheck, valueCheck}
 use Rattle.rules.specs.Ranges.{transferOk}
 use Rattle.rules.proofs.EachOutcome.{each-outcome}
-use Rattle.rules.proofs.Ranges.{factory-in, signed-fits}
+use Rattle.rules.proofs.Ranges.{signed-fits}
 
 -- what a change may be in a state: a value is in its setting's length and range, and a block is filled where one is left
 abbrev pub Allowed : State → Change → Type 0
@@ -44,8 +44,7 @@ Allowed u Keep = Unit {0}
 Allowed u (Put s v) = (v < 256 ^ settingRow s .size) × (within s (valued s v) ≡ true)
 Allowed u (Zero a preset offset) = (fits 16 preset ≡ true) × (fits 16 offset ≡ true)
 Allowed u Empty = Unit {0}
-Allowed u (Fill c kind t) =
-    (u .saves .filled < u .saves .blocks) × (u .saves .spoiled ≡ 0) × (between save load kind ≡ true) × (inTable (u .running) ≡ true → inTable t ≡ true)
+Allowed u (Fill c kind) = (u .saves .filled < u .saves .blocks) × (u .saves .spoiled ≡ 0) × (between save load kind ≡ true)
 
 -- the first and the last check pass where the whole chain does
 pub passes-first : (v w : Verdict) → v then w ≡ Pass → v ≡ Pass
@@ -67,9 +66,9 @@ value-fits o request = mod-lt (fourAt request 4) (one-le-pow (rowOf o .size) 256
 -- an accepted value is in its setting's range
 accepted-in : (node : ℕ) (s : Setting) (v : ℕ) → v < 256 ^ settingRow s .size → accepts node s v ≡ true → within s (valued s v) ≡ true
 accepted-in node Heartbeat v h e = e
-accepted-in node On v h e = cond-both (λ (n : ℕ). leb n 1 ≡ true) (ltb v 0x80000000) refl refl
-accepted-in node Transmission v h e = e
-accepted-in node Timer v h e = e
+accepted-in node (Pdo n On) v h e = cond-both (λ (n : ℕ). leb n 1 ≡ true) (ltb v 0x80000000) refl refl
+accepted-in node (Pdo n Transmission) v h e = e
+accepted-in node (Pdo n Timer) v h e = e
 accepted-in node Resolution v h e = e
 accepted-in node (Operating a) v h e = e
 accepted-in node (Preset a) v h e = signed-fits v h
@@ -88,10 +87,10 @@ zero-fits x r operating differential preset =
     cond-both ZeroFits (eqb (x .state) good) (cond-each ZeroFits (fits 16 o) (λ e. e) (λ e. tt)) tt
 
 module _ (u : State) where
-  fills : (c : Channel) (kind : ℕ) (t : Settings) → between save load kind ≡ true → (inTable (u .running) ≡ true → inTable t ≡ true)
-      → roomCheck (u .saves .spoiled) (u .saves .filled) (u .saves .blocks) ≡ Pass → Allowed u (Fill c kind t)
+  fills : (c : Channel) (kind : ℕ) → between save load kind ≡ true
+      → roomCheck (u .saves .spoiled) (u .saves .filled) (u .saves .blocks) ≡ Pass → Allowed u (Fill c kind)
   unfolding roomCheck
-  fills c kind t does table e =
+  fills c kind does e =
       let whole = eqb (u .saves .spoiled) 0 in
       let free = ltb (u .saves .filled) (u .saves .blocks) in
       let first = unless whole 0x06060000 in
@@ -99,7 +98,6 @@ module _ (u : State) where
         ltb-true (u .saves .filled) (u .saves .blocks) (passes free 0x05040005 (passes-last first last e)),
         eqb-true (u .saves .spoiled) 0 (passes whole 0x06060000 (passes-first first last e)),
         does,
-        table,
       )
 
   zeroes : (a : Axis) (v : ℕ) (z : Zeroed) → v < 0x10000 → ZeroFits z → Allowed u (zeroChange a v z)
@@ -108,14 +106,12 @@ module _ (u : State) where
 
   sets : (s : Setting) (v : ℕ) → v < 256 ^ settingRow s .size → accepts (u .node) s v ≡ true → Allowed u (settingChange s v u)
   sets Heartbeat v h e = (h, accepted-in (u .node) Heartbeat v h e)
-  sets On v h e = (h, accepted-in (u .node) On v h e)
-  sets Transmission v h e = (h, accepted-in (u .node) Transmission v h e)
-  sets Timer v h e = (h, accepted-in (u .node) Timer v h e)
+  sets (Pdo n p) v h e = (h, accepted-in (u .node) (Pdo n p) v h e)
   sets Resolution v h e = (h, accepted-in (u .node) Resolution v h e)
   sets (Operating a) v h e = (h, accepted-in (u .node) (Operating a) v h e)
   sets (Preset a) v h e =
       zeroes a v (zeroedBy a v u) h
-      (zero-fits (readingIn a (get rest u)) (get (running Resolution) u) (get (running (Operating a)) u) (get (running (Differential a)) u) (signed 16 v))
+      (zero-fits (get (axis a) u) (get (running Resolution) u) (get (running (Operating a)) u) (get (running (Differential a)) u) (signed 16 v))
   sets (Offset a) v h e = tt
   sets (Differential a) v h e = (h, accepted-in (u .node) (Differential a) v h e)
 
@@ -125,8 +121,8 @@ module _ (u : State) where
   changes c ErrorCount v h p e = tt
   changes c (ErrorEntry n) v h p e = tt
   changes c Name v h p e = tt
-  changes c Save v h p e = fills c save (u .running) refl (λ t. t) e
-  changes c Load v h p e = fills c load factory refl (λ t. factory-in) e
+  changes c Save v h p e = fills c save refl e
+  changes c Load v h p e = fills c load refl e
   changes c Filled v h p e = tt
   changes c (Angle a) v h p e = tt
   changes c (Of s) v h p e = sets s v h (passes (accepts (u .node) s v) 0x06090030 p)

@@ -9,8 +9,10 @@ use Rattle.rules.specs.declared.objects.Fixed.{Fixed}
 use Rattle.rules.specs.declared.objects.Fixed.the-variants.{DeviceType, ErrorRegister, SyncIdentifier, SaveCount, LoadCount, EmergencyIdentifier, IdentityCount, Vendor, Product, Revision, Serial, ServerCount, RequestIdentifier, ReplyIdentifier, PdoCount, MappingCount, Mapped, Blocks}
 use Rattle.rules.specs.declared.objects.Found.the-variants.{At}
 use Rattle.rules.specs.declared.objects.Object.the-variants.{Of}
+use Rattle.rules.specs.declared.objects.PdoNumber.the-variants.{First}
+use Rattle.rules.specs.declared.objects.PdoSetting.the-variants.{On, Transmission, Timer}
 use Rattle.rules.specs.declared.objects.Setting.{Setting}
-use Rattle.rules.specs.declared.objects.Setting.the-variants.{Heartbeat, On, Transmission, Timer, Resolution, Operating, Preset, Offset, Differential}
+use Rattle.rules.specs.declared.objects.Setting.the-variants.{Heartbeat, Pdo, Resolution, Operating, Preset, Offset, Differential}
 use Rattle.rules.specs.Objects.{fixedRow, settingRow, sameObject, readOnly, find, objectAt}
 
 -- no request changes these
@@ -29,7 +31,7 @@ fixed-read-only Serial = refl
 fixed-read-only (ServerCount c) = refl
 fixed-read-only (RequestIdentifier c) = refl
 fixed-read-only (ReplyIdentifier c) = refl
-fixed-read-only PdoCount = refl
+fixed-read-only (PdoCount n) = refl
 fixed-read-only MappingCount = refl
 fixed-read-only (Mapped a) = refl
 fixed-read-only Blocks = refl
@@ -38,9 +40,9 @@ fixed-read-only Blocks = refl
 setting-at : (s : Setting) → objectAt (settingRow s .index) (settingRow s .subindex) ≡ At (Of s)
 unfolding find
 setting-at Heartbeat = refl
-setting-at On = refl
-setting-at Transmission = refl
-setting-at Timer = refl
+setting-at (Pdo First On) = refl
+setting-at (Pdo First Transmission) = refl
+setting-at (Pdo First Timer) = refl
 setting-at Resolution = refl
 setting-at (Operating X) = refl
 setting-at (Operating Y) = refl

@@ -1,5 +1,5 @@
 -- A request leaves the record in range and the journal at its length.
-use mathlib.Core.Path.{_≡_, sym, subst}
+use mathlib.Core.Path.{_≡_, refl, sym, subst}
 use mathlib.Core.Bool.{true}
 use Prim.Native.Nat.{ℕ, _+_, _*_, _≤_}
 use native.Mathlib.Omega.{arith}
@@ -7,35 +7,38 @@ use lib.Dec.{eqb, leb}
 use lib.IntN.{ℤ}
 use lib.ListN.{length}
 use borrow.Author.Tests.{eqb-true, le-leb}
-use Rattle.laws.proofs.Bools.{cond-each, cond-both, one-of}
+use Rattle.laws.proofs.Bools.{both, right, cond-each, cond-both, one-of}
 use mathlib.Core.List.{List, [], _∷_}
 use Rattle.rules.specs.declared.objects.Axis.{Axis}
 use Rattle.rules.specs.declared.objects.Axis.the-variants.{X, Y}
 use Rattle.rules.specs.declared.objects.Channel.{Channel}
 use Rattle.rules.specs.declared.objects.Channel.the-variants.{One, Two}
+use Rattle.rules.specs.declared.objects.PdoNumber.the-variants.{First}
+use Rattle.rules.specs.declared.objects.PdoSetting.the-variants.{On, Transmission, Timer}
 use Rattle.rules.specs.declared.objects.Setting.{Setting}
-use Rattle.rules.specs.declared.objects.Setting.the-variants.{Heartbeat, On, Transmission, Timer, Resolution, Operating, Preset, Offset, Differential}
+use Rattle.rules.specs.declared.objects.Setting.the-variants.{Heartbeat, Pdo, Resolution, Operating, Preset, Offset, Differential}
+use Rattle.rules.specs.declared.parts.Transfer.{Transfer}
 use Rattle.rules.specs.declared.requests.Change.{Change}
 use Rattle.rules.specs.declared.requests.Change.the-variants.{Keep, Put, Zero, Empty, Fill}
 use Rattle.rules.specs.declared.requests.Outcome.{Outcome}
 use Rattle.rules.specs.declared.settings.PdoSettings.{PdoSettings}
 use Rattle.rules.specs.declared.settings.Settings.{Settings}
-use Rattle.rules.specs.Block.{block, channelNumber, mostBlocks}
-use Rattle.rules.specs.Cells.{Kept, kept, transfer, get}
+use Rattle.rules.specs.Block.{block, channelNumber, load, mostBlocks}
+use Rattle.rules.specs.Cells.{Kept, kept, get}
 use Rattle.rules.specs.Events.{journalFits}
 use Rattle.rules.specs.Numbers.{between, fits}
 use Rattle.rules.specs.Objects.{sameObject, settingRow}
 use Rattle.rules.specs.Ranges.{inRange, savesOk, errorsOk, elapsedOk, countsOk, transferOk}
-use Rattle.rules.specs.Service.{after, outcome, onSetting, onErrors, onKept, onHeartbeat, onPdo, onTransfer, valued, zeroedAt, sameAxis}
-use Rattle.rules.specs.Settings.{Held, inTable, setting, within}
-use Rattle.rules.specs.State.{State}
+use Rattle.rules.specs.Service.{after, outcome, onSetting, onErrors, onKept, stores, storing, onHeartbeat, onCounts, onTransfer, valued, zeroedAt, sameAxis}
+use Rattle.rules.specs.Settings.{Held, every, inTable, setting, pdoOf, within}
+use Rattle.rules.specs.State.{State, absent, transferring, place, transferOf}
 use Rattle.rules.proofs.Block.{block-length}
 use Rattle.rules.proofs.InRange.{InRange, parts, together}
 use Rattle.rules.proofs.Kept.{put-length}
 use Rattle.rules.proofs.Outcomes.{Allowed, allowed, transfer-in}
-use Rattle.rules.proofs.Ranges.{no-errors-in, no-elapsed-in, no-counts-in}
+use Rattle.rules.proofs.Ranges.{factory-in, no-errors-in, no-elapsed-in, no-counts-in}
 use Rattle.rules.proofs.Rows.{one-setting}
-use Rattle.rules.proofs.Table.{setting-in, table-of}
+use Rattle.rules.proofs.Table.{every-get, setting-in, table-of}
 
 module _ (u : State) (r : InRange u) where
   abbrev was : (s : Setting) → Held s
@@ -50,9 +53,7 @@ module _ (u : State) (r : InRange u) where
 
   zeroed-in : (a : Axis) (preset offset : ℤ) → fits 16 preset ≡ true → fits 16 offset ≡ true → (s : Setting) → within s (zeroedAt a preset offset s (was s)) ≡ true
   zeroed-in a preset offset p o Heartbeat = setting-in (u .running) (r .running) Heartbeat
-  zeroed-in a preset offset p o On = setting-in (u .running) (r .running) On
-  zeroed-in a preset offset p o Transmission = setting-in (u .running) (r .running) Transmission
-  zeroed-in a preset offset p o Timer = setting-in (u .running) (r .running) Timer
+  zeroed-in a preset offset p o (Pdo n q) = setting-in (u .running) (r .running) (Pdo n q)
   zeroed-in a preset offset p o Resolution = setting-in (u .running) (r .running) Resolution
   zeroed-in a preset offset p o (Operating b) = setting-in (u .running) (r .running) (Operating b)
   zeroed-in a preset offset p o (Preset b) = cond-both (λ (z : ℤ). fits 16 z ≡ true) (sameAxis a b) p (setting-in (u .running) (r .running) (Preset b))
@@ -64,31 +65,31 @@ module _ (u : State) (r : InRange u) where
   settings-in (Put t v) a s = put-in t s v (a .1)
   settings-in (Zero b preset offset) a s = zeroed-in b preset offset (a .0) (a .1) s
   settings-in Empty a s = setting-in (u .running) (r .running) s
-  settings-in (Fill c kind t) a s = setting-in (u .running) (r .running) s
+  settings-in (Fill c kind) a s = setting-in (u .running) (r .running) s
 
   errors-in : (e : Change) → errorsOk (onErrors e (u .errors)) ≡ true
   errors-in Keep = r .errors
   errors-in (Put s v) = r .errors
   errors-in (Zero a preset offset) = r .errors
   errors-in Empty = no-errors-in
-  errors-in (Fill c kind t) = r .errors
+  errors-in (Fill c kind) = r .errors
 
   -- the counts: a write that moves a period or a type zeroes what is counted against it
   abbrev pdoAfter : Change → PdoSettings
-  pdoAfter e = record { on = onSetting e On (was On); transmission = onSetting e Transmission (was Transmission); timer = onSetting e Timer (was Timer) }
+  pdoAfter e = pdoOf (λ s. onSetting e s (was s)) First
 
   abbrev Counts : Change → Type 0
   Counts e =
-      (elapsedOk (onSetting e Heartbeat (was Heartbeat)) (onHeartbeat e (u .heartbeat)) ≡ true) × (countsOk (pdoAfter e) (onPdo e (u .pdo)) ≡ true)
+      (elapsedOk (onSetting e Heartbeat (was Heartbeat)) (onHeartbeat e (u .heartbeat)) ≡ true) × (countsOk (pdoAfter e) (onCounts First e (u .pdo)) ≡ true)
 
   same : (elapsedOk (u .running .heartbeat) (u .heartbeat) ≡ true) × (countsOk (u .running .pdo) (u .pdo) ≡ true)
   same = (r .heartbeat, r .pdo)
 
   put-counts : (t : Setting) (v : ℕ) → Counts (Put t v)
   put-counts Heartbeat v = (no-elapsed-in v, r .pdo)
-  put-counts On v = (r .heartbeat, no-counts-in (pdoAfter (Put On v)))
-  put-counts Transmission v = (r .heartbeat, no-counts-in (pdoAfter (Put Transmission v)))
-  put-counts Timer v = (r .heartbeat, no-counts-in (pdoAfter (Put Timer v)))
+  put-counts (Pdo First On) v = (r .heartbeat, no-counts-in (pdoAfter (Put (Pdo First On) v)))
+  put-counts (Pdo First Transmission) v = (r .heartbeat, no-counts-in (pdoAfter (Put (Pdo First Transmission) v)))
+  put-counts (Pdo First Timer) v = (r .heartbeat, no-counts-in (pdoAfter (Put (Pdo First Timer) v)))
   put-counts Resolution v = same
   put-counts (Operating X) v = same
   put-counts (Operating Y) v = same
@@ -104,7 +105,7 @@ module _ (u : State) (r : InRange u) where
   counts-in (Put t v) = put-counts t v
   counts-in (Zero a preset offset) = same
   counts-in Empty = same
-  counts-in (Fill c kind t) = same
+  counts-in (Fill c kind) = same
 
   -- what only a save or a load changes
   module _ (fit : journalFits u ≡ true) where
@@ -112,31 +113,40 @@ module _ (u : State) (r : InRange u) where
       saves : savesOk (record { blocks = u .saves .blocks; filled = k .filled; spoiled = u .saves .spoiled; stored = k .stored }) ≡ true
       journal : eqb (length (k .journal)) (512 * u .saves .blocks) ≡ true
 
-    fill-in : (c : Channel) (kind : ℕ) (t : Settings) → Allowed u (Fill c kind t) → Fits (onKept (Fill c kind t) (get kept u))
-    fill-in c kind t a =
+    -- what is stored is within the object table, as the running settings and factory are
+    stored-in : (kind : ℕ) → inTable (storing kind (u .running)) ≡ true
+    stored-in kind = cond-both (λ (t : Settings). inTable t ≡ true) (eqb kind load) factory-in (r .running)
+
+    fill-in : (c : Channel) (kind : ℕ) → Allowed u (Fill c kind) → Fits (onKept (Fill c kind) (storing kind (u .running)) (get kept u))
+    fill-in c kind a =
+        let t = storing kind (u .running) in
         let at = one-of (between 1 mostBlocks (u .saves .blocks)) (leb (u .saves .filled) (u .saves .blocks) ∷ leb (u .saves .spoiled) 1 ∷ inTable (u .saves .stored) ∷ []) (r .saves) in
         let long = eqb-true (length (u .journal)) (512 * u .saves .blocks) fit in
         let room = a .0 in
         let b = block (u .saves .filled + 1) (channelNumber c) kind t in
         let enough : 512 * (u .saves .filled + 1) ≤ length (u .journal) = omega (arith, long, room) in
         record {
-          saves = simp (at 0, le-leb (u .saves .filled + 1) (u .saves .blocks) (omega (arith, room)), at 2, a .3 (r .running));
+          saves = simp (at 0, le-leb (u .saves .filled + 1) (u .saves .blocks) (omega (arith, room)), at 2, stored-in kind);
           journal = simp (put-length (u .saves .filled) b (u .journal) enough (block-length (u .saves .filled + 1) (channelNumber c) kind t)) fit;
         }
 
-    kept-in : (e : Change) → Allowed u e → Fits (onKept e (get kept u))
+    kept-in : (e : Change) → Allowed u e → Fits (onKept e (stores e (u .running)) (get kept u))
     kept-in Keep a = record { saves = r .saves; journal = fit }
     kept-in (Put s v) a = record { saves = r .saves; journal = fit }
     kept-in (Zero b preset offset) a = record { saves = r .saves; journal = fit }
     kept-in Empty a = record { saves = r .saves; journal = fit }
-    kept-in (Fill c kind t) a = fill-in c kind t a
+    kept-in (Fill c kind) a = fill-in c kind a
 
     -- the transfers: absent, at the start or after seven bytes
-    transfers-in : (c b : Channel) (next t : ℕ) → transferOk next ≡ true → transferOk t ≡ true → transferOk (onTransfer c b next t) ≡ true
+    transfers-in : (c b : Channel) (next t : Transfer) → transferOk next ≡ true → transferOk t ≡ true → transferOk (onTransfer c b next t) ≡ true
     transfers-in One One next t p q = p
     transfers-in One Two next t p q = q
     transfers-in Two One next t p q = q
     transfers-in Two Two next t p q = p
+
+    -- each channel's is one of the two
+    own : (c : Channel) → transferOk (transferOf c u) ≡ true
+    own c = every-get transferOk (transferring absent) refl (u .transfers) (right (eqb (length (u .transfers)) 2) (every transferOk (u .transfers)) (r .transfers)) (place c)
 
     pub after-in : (c : Channel) (o : Outcome) → transferOk (o .transfer) ≡ true → Allowed u (o .change) → (inRange (after c o u) ≡ true) × (journalFits (after c o u) ≡ true)
     after-in c o t a =
@@ -151,8 +161,7 @@ module _ (u : State) (r : InRange u) where
                 errors = errors-in e;
                 heartbeat = counts-in e .0;
                 pdo = counts-in e .1;
-                one = transfers-in c One (o .transfer) (u .one) t (r .one);
-                two = transfers-in c Two (o .transfer) (u .two) t (r .two);
+                transfers = both (transfers-in c One (o .transfer) (transferOf One u) t (own One)) (both (transfers-in c Two (o .transfer) (transferOf Two u) t (own Two)) refl);
                 x = r .x;
                 y = r .y;
               }),
@@ -164,8 +173,4 @@ pub served-in : (c : Channel) (request : List ℕ) (u : State) → inRange u ≡
     → (inRange (after c (outcome c request u) u) ≡ true) × (journalFits (after c (outcome c request u) u) ≡ true)
 served-in c request u e fit =
     let r = parts u e in
-    after-in u r fit c (outcome c request u) (transfer-in u c request (own c r)) (allowed u c request)
-  where
-    own : (c : Channel) → InRange u → transferOk (get (transfer c) u) ≡ true
-    own One r = r .one
-    own Two r = r .two
+    after-in u r fit c (outcome c request u) (transfer-in u c request (own u r fit c)) (allowed u c request)

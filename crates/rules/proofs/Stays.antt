@@ -13,8 +13,9 @@ use Rattle.rules.specs.declared.errors.ErrorList.{ErrorList}
 use Rattle.rules.specs.declared.events.Event.{Event}
 use Rattle.rules.specs.declared.objects.Axis.{Axis}
 use Rattle.rules.specs.declared.objects.Axis.the-variants.{X, Y}
+use Rattle.rules.specs.declared.objects.PdoNumber.the-variants.{First}
 use Rattle.rules.specs.declared.objects.Setting.{Setting}
-use Rattle.rules.specs.declared.objects.Setting.the-variants.{Heartbeat, On, Transmission, Timer, Resolution, Operating, Preset, Offset, Differential}
+use Rattle.rules.specs.declared.objects.Setting.the-variants.{Heartbeat, Pdo, Resolution, Operating, Preset, Offset, Differential}
 use Rattle.rules.specs.declared.parts.Identity.{Identity}
 use Rattle.rules.specs.declared.parts.PdoCounts.{PdoCounts}
 use Rattle.rules.specs.declared.parts.Reading.{Reading}
@@ -55,8 +56,7 @@ started-in node identity saves j n s =
       errors = cond-both (λ (l : ErrorList). errorsOk l ≡ true) (eqb (saves .spoiled) 0) no-errors-in (entered-in 0xFF00 noErrors refl no-errors-in);
       heartbeat = no-elapsed-in (saves .stored .heartbeat);
       pdo = no-counts-in (saves .stored .pdo);
-      one = refl;
-      two = refl;
+      transfers = refl;
       x = none-in;
       y = none-in;
     })
@@ -71,7 +71,7 @@ module _ (u : State) (fine : NotRefused u) where
       → errorsOk errors ≡ true → axisOk x ≡ true → axisOk y ≡ true → NotRefused (moved network heartbeat pdo errors x y u)
   moved-in network heartbeat pdo errors x y n h p e f g = (
     together (moved network heartbeat pdo errors x y u)
-        (record { node = is .node; network = n; saves = is .saves; running = is .running; errors = e; heartbeat = h; pdo = p; one = is .one; two = is .two; x = f; y = g }),
+        (record { node = is .node; network = n; saves = is .saves; running = is .running; errors = e; heartbeat = h; pdo = p; transfers = is .transfers; x = f; y = g }),
     fine .1,
   )
 
@@ -82,7 +82,7 @@ module _ (u : State) (fine : NotRefused u) where
       let count = u .pdo .elapsed in
       let syncs = syncsOk (u .running .pdo .transmission) (u .pdo .syncs) in
       moved-in _ _ _ _ _ _ (is .network) (elapsed-in true (u .running .heartbeat) (u .heartbeat) ms (is .heartbeat))
-      (both (elapsed-in (timerRuns u) period count ms (left (elapsedOk period count) syncs (is .pdo))) (right (elapsedOk period count) syncs (is .pdo)))
+      (both (elapsed-in (timerRuns First u) period count ms (left (elapsedOk period count) syncs (is .pdo))) (right (elapsedOk period count) syncs (is .pdo)))
       (is .errors) (is .x) (is .y)
 
   sync-stays : NotRefused (onSync u .state)
@@ -90,11 +90,11 @@ module _ (u : State) (fine : NotRefused u) where
   sync-stays =
       let type = u .running .pdo .transmission in
       let elapsed = elapsedOk (u .running .pdo .timer) (u .pdo .elapsed) in
-      cond-each (λ (r : Result). NotRefused (r .state)) (syncCounts u)
-      (λ e. moved-in _ _ _ _ _ _ (is .network) (is .heartbeat)
-      (both (left elapsed (syncsOk type (u .pdo .syncs)) (is .pdo)) (syncs-in type (u .pdo .syncs) (right (sending u) (synchronous type) e)))
-      (is .errors) (is .x) (is .y))
-      (λ e. fine)
+      moved-in _ _ _ _ _ _ (is .network) (is .heartbeat)
+      (cond-each (λ (c : PdoCounts). countsOk (u .running .pdo) c ≡ true) (syncCounts First u)
+      (λ e. both (left elapsed (syncsOk type (u .pdo .syncs)) (is .pdo)) (syncs-in type (u .pdo .syncs) (right (sending First u) (synchronous type) e)))
+      (λ e. is .pdo))
+      (is .errors) (is .x) (is .y)
 
   errors-in : (a : Axis) (t : Bool) → errorsOk (cond t (entered (faultCode a) (u .errors)) (u .errors)) ≡ true
   errors-in a t = cond-both (λ (l : ErrorList). errorsOk l ≡ true) t (entered-in (faultCode a) (u .errors) (code-in a) (is .errors)) (is .errors)
@@ -119,8 +119,7 @@ module _ (u : State) (fine : NotRefused u) where
               errors = is .errors;
               heartbeat = no-elapsed-in (u .saves .stored .heartbeat);
               pdo = no-counts-in (u .saves .stored .pdo);
-              one = refl;
-              two = refl;
+              transfers = refl;
               x = is .x;
               y = is .y;
             }),
@@ -133,9 +132,7 @@ module _ (u : State) (fine : NotRefused u) where
 
       mixed : inTable (u .saves .stored) ≡ true → (s : Setting) → within s (setting s (communicating u .running)) ≡ true
       mixed e Heartbeat = setting-in (u .saves .stored) e Heartbeat
-      mixed e On = setting-in (u .saves .stored) e On
-      mixed e Transmission = setting-in (u .saves .stored) e Transmission
-      mixed e Timer = setting-in (u .saves .stored) e Timer
+      mixed e (Pdo First p) = setting-in (u .saves .stored) e (Pdo First p)
       mixed e Resolution = setting-in (u .running) (is .running) Resolution
       mixed e (Operating a) = rw (setting, axes a) (setting-in (u .running) (is .running) (Operating a))
       mixed e (Preset a) = rw (setting, axes a) (setting-in (u .running) (is .running) (Preset a))

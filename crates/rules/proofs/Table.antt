@@ -11,16 +11,24 @@ use Rattle.laws.proofs.Bools.{both, left, right, either}
 use Rattle.rules.proofs.Numbers.{to-most}
 use Rattle.rules.specs.Numbers.{between}
 use Rattle.rules.specs.declared.objects.Axis.the-variants.{X, Y}
+use Rattle.rules.specs.declared.objects.PdoNumber.the-variants.{First}
+use Rattle.rules.specs.declared.objects.PdoSetting.the-variants.{On, Transmission, Timer}
 use Rattle.rules.specs.declared.objects.Setting.{Setting}
-use Rattle.rules.specs.declared.objects.Setting.the-variants.{Heartbeat, On, Transmission, Timer, Resolution, Operating, Preset, Offset, Differential}
+use Rattle.rules.specs.declared.objects.Setting.the-variants.{Heartbeat, Pdo, Resolution, Operating, Preset, Offset, Differential}
 use Rattle.rules.specs.declared.settings.Settings.{Settings}
-use Rattle.rules.specs.Settings.{Held, every, inTable, setting, settings, settingsOf, within}
+use Rattle.rules.specs.Settings.{Held, every, inTable, setting, settings, settingsOf, within, pdoWithin}
 
 -- what holds of every element holds of the one at a place
 pub every-at : {A : Type 0} (p : A → Bool) (l : List A) → every p l ≡ true → (i : ℕ) → getD (map p l) i true ≡ true
 every-at p [] e i = refl
 every-at p (x ∷ l) e zero = left (p x) _ e
 every-at p (x ∷ l) e (suc i) = every-at p l (right (p x) _ e) i
+
+-- and of what is read at any place, where it holds of what stands for none
+pub every-get : {A : Type 0} (p : A → Bool) (z : A) → p z ≡ true → (l : List A) → every p l ≡ true → (i : ℕ) → p (getD l i z) ≡ true
+every-get p z h [] e i = h
+every-get p z h (x ∷ l) e zero = left (p x) _ e
+every-get p z h (x ∷ l) e (suc i) = every-get p z h l (right (p x) _ e) i
 
 -- settings within the object table have each one in its range
 module _ (t : Settings) (e : inTable t ≡ true) where
@@ -30,9 +38,9 @@ module _ (t : Settings) (e : inTable t ≡ true) where
 
   pub setting-in : (s : Setting) → within s (setting s t) ≡ true
   setting-in Heartbeat = by-place 0
-  setting-in On = by-place 1
-  setting-in Transmission = by-place 2
-  setting-in Timer = by-place 3
+  setting-in (Pdo First On) = by-place 1
+  setting-in (Pdo First Transmission) = by-place 2
+  setting-in (Pdo First Timer) = by-place 3
   setting-in Resolution = by-place 4
   setting-in (Operating X) = by-place 5
   setting-in (Operating Y) = by-place 6
@@ -55,9 +63,9 @@ in-table t h = every-of (λ s. within s (setting s t)) settings h
 -- a setting of the settings with each one given
 pub setting-of : (f : (s : Setting) → Held s) (s : Setting) → setting s (settingsOf f) ≡ f s
 setting-of f Heartbeat = refl
-setting-of f On = refl
-setting-of f Transmission = refl
-setting-of f Timer = refl
+setting-of f (Pdo First On) = refl
+setting-of f (Pdo First Transmission) = refl
+setting-of f (Pdo First Timer) = refl
 setting-of f Resolution = refl
 setting-of f (Operating X) = refl
 setting-of f (Operating Y) = refl
@@ -75,7 +83,7 @@ table-of f h = in-table (settingsOf f) (λ s. ap (within s) (setting-of f s) ∙
 pub heartbeat-fits : (x : ℕ) → within Heartbeat x ≡ true → x < 0x10000
 heartbeat-fits x = either (eqb x 0) (between 25 65535 x) (λ e. omega (arith, eqb-true x 0 e)) (λ e. omega (arith, to-most 25 65535 x e))
 
-pub timer-fits : (x : ℕ) → within Timer x ≡ true → x < 0x10000
+pub timer-fits : (x : ℕ) → pdoWithin Timer x ≡ true → x < 0x10000
 timer-fits x e = omega (arith, leb-true x 65535 e)
 
 pub resolution-fits : (x : ℕ) → within Resolution x ≡ true → x < 0x10000

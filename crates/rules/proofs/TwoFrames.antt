@@ -1,15 +1,16 @@
 -- "0 to 2 frames": no event and no power-on sends more.
 use mathlib.Core.Bool.{Bool, true, false, not, _&&_}
 use mathlib.Core.List.{List, [], _∷_, _++_}
-use Prim.Native.Nat.{ℕ, _+_, _≤_}
+use Prim.Native.Nat.{ℕ, _≤_}
 use native.Mathlib.Omega.{arith}
-use lib.Dec.{eqb, leb}
+use lib.Dec.{eqb}
 use lib.IntN.{ℤ}
 use lib.ListN.{length}
 use Rattle.laws.proofs.Bools.{cond-both}
 use Rattle.rules.specs.declared.events.Event.{Event}
 use Rattle.rules.specs.declared.events.Frame.{Frame}
 use Rattle.rules.specs.declared.objects.Axis.{Axis}
+use Rattle.rules.specs.declared.objects.PdoNumber.the-variants.{First}
 use Rattle.rules.specs.declared.parts.Identity.{Identity}
 use Rattle.rules.specs.declared.parts.Saves.{Saves}
 use Rattle.rules.specs.Events.{event}
@@ -17,14 +18,14 @@ use Rattle.rules.specs.Frames.{bootUp}
 use Rattle.rules.specs.Network.{start}
 use Rattle.rules.specs.PowerOn.{savesIn, powerOn}
 use Rattle.rules.specs.Readings.{fails, registerOf, withMeasured, onReading}
-use Rattle.rules.specs.Results.{Result}
+use Rattle.rules.specs.Results.{Result, mostFrames}
 use Rattle.rules.specs.Service.{outcome}
 use Rattle.rules.specs.State.{State, stopped, reading}
-use Rattle.rules.specs.Time.{when, reaches, timerRuns, syncCounts, onTick, onSync}
+use Rattle.rules.specs.Time.{when, reaches, timerRuns, syncCounts, syncDue, onTick, onSync}
 use Rattle.rules.proofs.EachEvent.{each-event, power-each}
 
 abbrev Few : List Frame → Type 0
-Few frames = length frames ≤ 2
+Few frames = length frames ≤ mostFrames
 
 none : Few []
 none = omega arith
@@ -46,12 +47,11 @@ started node identity saves j = cond-both (λ (l : List Frame). Few (bootUp node
 module _ (u : State) where
   ticked : (ms : ℕ) → Few (onTick ms u .sent)
   unfolding onTick
-  ticked ms = two-due (reaches true (u .running .heartbeat) (u .heartbeat) ms) (reaches (timerRuns u) (u .running .pdo .timer) (u .pdo .elapsed) ms) _ _
+  ticked ms = two-due (reaches true (u .running .heartbeat) (u .heartbeat) ms) (reaches (timerRuns First u) (u .running .pdo .timer) (u .pdo .elapsed) ms) _ _
 
   synchronized : Few (onSync u .sent)
   unfolding onSync
-  synchronized =
-      cond-both (λ (r : Result). Few (r .sent)) (syncCounts u) (cond-both Few (leb (u .running .pdo .transmission) (u .pdo .syncs + 1)) (omega arith) none) none
+  synchronized = cond-both Few (syncCounts First u && syncDue First u) (omega arith) none
 
   measured : (a : Axis) (m : ℤ) → Few (onReading a m u .sent)
   unfolding onReading
@@ -60,7 +60,7 @@ module _ (u : State) where
       cond-both Few (eqb (u .network) stopped) none
       (cond-both Few (fails m (reading a u)) (omega arith) (cond-both Few (not (eqb (registerOf u) 0) && eqb (registerOf v) 0) (omega arith) none))
 
-  pub event-sends : (e : Event) (bytes : List ℕ) (n : ℕ) → length (event e bytes n u .sent) ≤ 2
+  pub event-sends : (e : Event) (bytes : List ℕ) (n : ℕ) → length (event e bytes n u .sent) ≤ mostFrames
   event-sends =
       each-event u (λ (r : Result). Few (r .sent)) (λ number. none)
       (λ h. record {
@@ -76,5 +76,5 @@ module _ (u : State) where
         requested = λ c bytes. cond-both Few (outcome c bytes u .replies) (omega arith) none;
       })
 
-pub power-on-sends : (node : ℕ) (identity : Identity) (j : List ℕ) → length (powerOn node identity j .sent) ≤ 2
+pub power-on-sends : (node : ℕ) (identity : Identity) (j : List ℕ) → length (powerOn node identity j .sent) ≤ mostFrames
 power-on-sends node identity j = power-each (λ (r : Result). Few (r .sent)) node identity j (λ n l. started node identity (savesIn j) j) (λ number. none)

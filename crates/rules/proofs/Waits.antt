@@ -4,9 +4,8 @@ use Prim.Native.Nat.{ℕ}
 use Rattle.rules.specs.declared.objects.Channel.{Channel}
 use Rattle.rules.specs.declared.objects.Setting.{Setting}
 use Rattle.rules.specs.declared.requests.Change.the-variants.{Fill}
-use Rattle.rules.specs.declared.settings.Settings.{Settings}
 use Rattle.rules.specs.Service.{onSetting}
 use Rattle.rules.specs.Settings.{Held}
 
-pub fill-waits : (c : Channel) (kind : ℕ) (t : Settings) (s : Setting) (x : Held s) → onSetting (Fill c kind t) s x ≡ x
-fill-waits c kind t s x = refl
+pub fill-waits : (c : Channel) (kind : ℕ) (s : Setting) (x : Held s) → onSetting (Fill c kind) s x ≡ x
+fill-waits c kind s x = refl

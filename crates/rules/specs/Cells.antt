@@ -1,18 +1,21 @@
 -- The state seen as cells: the parts that service requests act on, each by itself.
-use mathlib.Core.List.{List}
+use mathlib.Core.List.{List, [], _∷_}
 use Prim.Native.Nat.{ℕ}
 use Rattle.rules.specs.declared.errors.ErrorList.{ErrorList}
 use Rattle.rules.specs.declared.objects.Axis.{Axis}
 use Rattle.rules.specs.declared.objects.Axis.the-variants.{X, Y}
 use Rattle.rules.specs.declared.objects.Channel.{Channel}
 use Rattle.rules.specs.declared.objects.Channel.the-variants.{One, Two}
+use Rattle.rules.specs.declared.objects.PdoNumber.{PdoNumber}
+use Rattle.rules.specs.declared.objects.PdoNumber.the-variants.{First}
 use Rattle.rules.specs.declared.objects.Setting.{Setting}
 use Rattle.rules.specs.declared.parts.Identity.{Identity}
 use Rattle.rules.specs.declared.parts.PdoCounts.{PdoCounts}
 use Rattle.rules.specs.declared.parts.Reading.{Reading}
+use Rattle.rules.specs.declared.parts.Transfer.{Transfer}
 use Rattle.rules.specs.declared.settings.Settings.{Settings}
 use Rattle.rules.specs.Settings.{Held, setting, settingsOf}
-use Rattle.rules.specs.State.{State}
+use Rattle.rules.specs.State.{State, pdoCounts, transferOf, reading}
 
 -- what only a save or a load changes
 pub record Kept : Type 0 where
@@ -27,12 +30,6 @@ pub record Rest : Type 0 where
   pub network : ℕ
   pub blocks : ℕ
   pub spoiled : ℕ
-  pub x : Reading
-  pub y : Reading
-
-abbrev pub readingIn : Axis → Rest → Reading
-readingIn X t = t .x
-readingIn Y t = t .y
 
 -- the parts that requests act on
 pub data Cell : Type 0 where
@@ -40,8 +37,9 @@ pub data Cell : Type 0 where
   errors : Cell
   kept : Cell
   heartbeat : Cell
-  pdo : Cell
+  pdo : PdoNumber → Cell
   transfer : Channel → Cell
+  axis : Axis → Cell
   rest : Cell
 
 abbrev pub Content : Cell → Type 0
@@ -49,8 +47,9 @@ Content (running s) = Held s
 Content errors = ErrorList
 Content kept = Kept
 Content heartbeat = ℕ
-Content pdo = PdoCounts
-Content (transfer c) = ℕ
+Content (pdo n) = PdoCounts
+Content (transfer c) = Transfer
+Content (axis a) = Reading
 Content rest = Rest
 
 abbrev pub get : (k : Cell) → State → Content k
@@ -58,17 +57,15 @@ get (running s) u = setting s (u .running)
 get errors u = u .errors
 get kept u = record { filled = u .saves .filled; stored = u .saves .stored; journal = u .journal }
 get heartbeat u = u .heartbeat
-get pdo u = u .pdo
-get (transfer One) u = u .one
-get (transfer Two) u = u .two
+get (pdo n) u = pdoCounts n u
+get (transfer c) u = transferOf c u
+get (axis a) u = reading a u
 get rest u = record {
   node = u .node;
   identity = u .identity;
   network = u .network;
   blocks = u .saves .blocks;
   spoiled = u .saves .spoiled;
-  x = u .x;
-  y = u .y;
 }
 
 -- the state with each part given
@@ -81,10 +78,9 @@ stateOf f = record {
   running = settingsOf (λ s. f (running s));
   errors = f errors;
   heartbeat = f heartbeat;
-  pdo = f pdo;
-  one = f (transfer One);
-  two = f (transfer Two);
-  x = f rest .x;
-  y = f rest .y;
+  pdo = f (pdo First);
+  transfers = f (transfer One) ∷ f (transfer Two) ∷ [];
+  x = f (axis X);
+  y = f (axis Y);
   journal = f kept .journal;
 }

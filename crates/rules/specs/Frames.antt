@@ -5,6 +5,8 @@ use lib.ListN.{length, take, replicate}
 use Rattle.rules.specs.declared.events.Frame.{Frame}
 use Rattle.rules.specs.declared.objects.Channel.{Channel}
 use Rattle.rules.specs.declared.objects.Channel.the-variants.{One, Two}
+use Rattle.rules.specs.declared.objects.PdoNumber.{PdoNumber}
+use Rattle.rules.specs.declared.objects.PdoNumber.the-variants.{First}
 use Rattle.rules.specs.declared.parts.Reading.{Reading}
 use Rattle.rules.specs.declared.settings.Settings.{Settings}
 use Rattle.rules.specs.Numbers.{two, unsigned}
@@ -39,10 +41,13 @@ heartbeat node network = frame (0x700 + node) (network ∷ [])
 abbrev pub emergency : ℕ → ℕ → ℕ → Frame
 emergency node code register = frame (0x80 + node) (two code ++ register ∷ 0 ∷ 0 ∷ 0 ∷ 0 ∷ 0 ∷ [])
 
--- "PDO: 180h+node, X then Y, 4 bytes"
-unfoldable pub pdoFrame : ℕ → Reading → Reading → Settings → Frame
-pdoFrame node x y s =
-    frame (0x180 + node)
+-- "PDO: 180h+node, X then Y, 4 bytes"; by the PDO's number
+abbrev pub pdoAt : PdoNumber → ℕ
+pdoAt First = 0x180
+
+unfoldable pub pdoFrame : PdoNumber → ℕ → Reading → Reading → Settings → Frame
+pdoFrame n node x y s =
+    frame (pdoAt n + node)
     (two (unsigned 16 (shown x (s .resolution) (s .x))) ++ two (unsigned 16 (shown y (s .resolution) (s .y))))
 
 -- a service reply on its channel

@@ -5,13 +5,14 @@ use Prim.Native.Nat.{ℕ}
 use lib.Dec.{eqb}
 use lib.IntN.{pos}
 use lib.ListN.{getD}
+use Rattle.rules.specs.declared.events.Frame.{Frame}
 use Rattle.rules.specs.declared.parts.Identity.{Identity}
 use Rattle.rules.specs.declared.parts.Reading.{Reading}
 use Rattle.rules.specs.declared.parts.Saves.{Saves}
 use Rattle.rules.specs.Errors.{noErrors, entered, register}
 use Rattle.rules.specs.Frames.{bootUp, emergency}
 use Rattle.rules.specs.Results.{Result, accepted, ignored}
-use Rattle.rules.specs.State.{State, stopped, operational, preOperational, absent, none, noCounts, withNetwork}
+use Rattle.rules.specs.State.{State, stopped, operational, preOperational, none, noTransfers, noCounts, withNetwork}
 
 abbrev pub noReading : Reading
 noReading = record { state = none; m = pos 0 }
@@ -27,18 +28,19 @@ started node identity saves journal = record {
   errors = cond (eqb (saves .spoiled) 0) noErrors (entered 0xFF00 noErrors);
   heartbeat = 0;
   pdo = noCounts;
-  one = absent;
-  two = absent;
+  transfers = noTransfers;
   x = noReading;
   y = noReading;
   journal = journal;
 }
 
 -- "EMCY FF00h (register 81h) follows boot-up, listed, at power-on and after 81h"
+abbrev pub booted : ℕ → ℕ → List Frame
+booted node spoiled = bootUp node ∷ cond (eqb spoiled 0) [] (emergency node 0xFF00 (register spoiled none none) ∷ [])
+
 unfoldable pub start : ℕ → Identity → Saves → List ℕ → Result
 start node identity saves journal =
-    accepted (started node identity saves journal)
-    (bootUp node ∷ cond (eqb (saves .spoiled) 0) [] (emergency node 0xFF00 (register (saves .spoiled) none none) ∷ []))
+    accepted (started node identity saves journal) (booted node (saves .spoiled))
 
 -- "82h takes 1017 and 1800 from the stored settings"
 abbrev pub communicating : State → State
@@ -57,8 +59,7 @@ communicating u = record {
   errors = u .errors;
   heartbeat = 0;
   pdo = noCounts;
-  one = absent;
-  two = absent;
+  transfers = noTransfers;
   x = u .x;
   y = u .y;
   journal = u .journal;

@@ -13,8 +13,12 @@ use Rattle.rules.specs.declared.objects.Found.{Found}
 use Rattle.rules.specs.declared.objects.Found.the-variants.{At, NoObject, NoSubindex}
 use Rattle.rules.specs.declared.objects.Object.{Object}
 use Rattle.rules.specs.declared.objects.Object.the-variants.{Const, ErrorCount, ErrorEntry, Name, Save, Load, Filled, Angle, Of}
+use Rattle.rules.specs.declared.objects.PdoNumber.{PdoNumber}
+use Rattle.rules.specs.declared.objects.PdoNumber.the-variants.{First}
+use Rattle.rules.specs.declared.objects.PdoSetting.{PdoSetting}
+use Rattle.rules.specs.declared.objects.PdoSetting.the-variants.{On, Transmission, Timer}
 use Rattle.rules.specs.declared.objects.Setting.{Setting}
-use Rattle.rules.specs.declared.objects.Setting.the-variants.{Heartbeat, On, Transmission, Timer, Resolution, Operating, Preset, Offset, Differential}
+use Rattle.rules.specs.declared.objects.Setting.the-variants.{Heartbeat, Pdo, Resolution, Operating, Preset, Offset, Differential}
 use Rattle.rules.specs.Settings.{settings}
 
 -- a row of the table: index, subindex, length in bytes, whether it is written
@@ -51,6 +55,20 @@ readOnly = false
 abbrev pub readWrite : Bool
 readWrite = true
 
+-- where a PDO's settings stand
+abbrev pub onPdo : PdoNumber → ℕ
+onPdo First = 0x1800
+
+abbrev pub pdoSubindex : PdoSetting → ℕ
+pdoSubindex On = 1
+pdoSubindex Transmission = 2
+pdoSubindex Timer = 5
+
+abbrev pub pdoSize : PdoSetting → ℕ
+pdoSize On = u32
+pdoSize Transmission = u8
+pdoSize Timer = u16
+
 -- Y's objects stand 10h behind X's, and 1201 behind 1200
 abbrev pub onAxis : Axis → ℕ → ℕ
 onAxis X index = index
@@ -79,16 +97,14 @@ fixedRow Serial = row 0x1018 4 u32 readOnly
 fixedRow (ServerCount c) = row (onChannel c 0x1200) 0 u8 readOnly
 fixedRow (RequestIdentifier c) = row (onChannel c 0x1200) 1 u32 readOnly
 fixedRow (ReplyIdentifier c) = row (onChannel c 0x1200) 2 u32 readOnly
-fixedRow PdoCount = row 0x1800 0 u8 readOnly
+fixedRow (PdoCount n) = row (onPdo n) 0 u8 readOnly
 fixedRow MappingCount = row 0x1A00 0 u8 readOnly
 fixedRow (Mapped a) = row 0x1A00 (mappedAt a) u32 readOnly
 fixedRow Blocks = row 0x2101 0 u16 readOnly
 
 abbrev pub settingRow : Setting → Row
 settingRow Heartbeat = row 0x1017 0 u16 readWrite
-settingRow On = row 0x1800 1 u32 readWrite
-settingRow Transmission = row 0x1800 2 u8 readWrite
-settingRow Timer = row 0x1800 5 u16 readWrite
+settingRow (Pdo n p) = row (onPdo n) (pdoSubindex p) (pdoSize p) readWrite
 settingRow Resolution = row 0x6000 0 u16 readWrite
 settingRow (Operating a) = row (onAxis a 0x6011) 0 u8 readWrite
 settingRow (Preset a) = row (onAxis a 0x6012) 0 i16 readWrite
@@ -114,7 +130,7 @@ fixed =
     IdentityCount ∷ Vendor ∷ Product ∷ Revision ∷ Serial ∷
     ServerCount One ∷ RequestIdentifier One ∷ ReplyIdentifier One ∷
     ServerCount Two ∷ RequestIdentifier Two ∷ ReplyIdentifier Two ∷
-    PdoCount ∷ MappingCount ∷ Mapped X ∷ Mapped Y ∷ Blocks ∷ []
+    PdoCount First ∷ MappingCount ∷ Mapped X ∷ Mapped Y ∷ Blocks ∷ []
 
 abbrev pub objects : List Object
 objects =

@@ -1,18 +1,21 @@
 -- The device and what moves it, the ranges: what a device record holds that is not refused with 3.
 use mathlib.Core.Bool.{Bool, cond, not, _&&_, _||_}
+use mathlib.Core.List.{List}
 use Prim.Native.Nat.{ℕ}
 use lib.Dec.{eqb, ltb, leb}
 use lib.IntN.{ℤ, pos}
-use lib.ListN.{getD}
+use lib.ListN.{length, getD}
 use Rattle.rules.specs.declared.errors.ErrorList.{ErrorList}
+use Rattle.rules.specs.declared.objects.PdoNumber.the-variants.{First}
 use Rattle.rules.specs.declared.parts.PdoCounts.{PdoCounts}
 use Rattle.rules.specs.declared.parts.Reading.{Reading}
 use Rattle.rules.specs.declared.parts.Saves.{Saves}
+use Rattle.rules.specs.declared.parts.Transfer.{Transfer}
 use Rattle.rules.specs.declared.settings.PdoSettings.{PdoSettings}
 use Rattle.rules.specs.Block.{mostBlocks}
 use Rattle.rules.specs.Numbers.{between, betweenℤ, minus}
-use Rattle.rules.specs.Settings.{synchronous, inTable}
-use Rattle.rules.specs.State.{State, stopped, operational, preOperational, afterSeven, none, faulty}
+use Rattle.rules.specs.Settings.{synchronous, every, inTable, pdoSettings}
+use Rattle.rules.specs.State.{State, stopped, operational, preOperational, afterSeven, none, faulty, pdoCounts}
 
 -- "node 1 to 47"
 abbrev pub nodeOk : ℕ → Bool
@@ -28,7 +31,7 @@ savesOk s = between 1 mostBlocks (s .blocks) && leb (s .filled) (s .blocks) && l
 
 -- "error list 0 to 5 codes long, each FF00h to FF02h, 0 past its end"
 abbrev pub codeOk : ℕ → ℕ → ℕ → Bool
-codeOk length i code = cond (ltb i length) (between 0xFF00 0xFF02 code) (eqb code 0)
+codeOk n i code = cond (ltb i n) (between 0xFF00 0xFF02 code) (eqb code 0)
 
 unfoldable pub errorsOk : ErrorList → Bool
 errorsOk l =
@@ -47,8 +50,12 @@ abbrev pub countsOk : PdoSettings → PdoCounts → Bool
 countsOk s c = elapsedOk (s .timer) (c .elapsed) && syncsOk (s .transmission) (c .syncs)
 
 -- "absent or at the start or after 7 bytes"
-abbrev pub transferOk : ℕ → Bool
-transferOk t = leb t afterSeven
+abbrev pub transferOk : Transfer → Bool
+transferOk t = leb (t .stage) afterSeven
+
+-- "a segmented transfer on each channel"
+abbrev pub transfersOk : List Transfer → Bool
+transfersOk l = eqb (length l) 2 && every transferOk l
 
 -- "axis none, good or faulty, with its m from −180,000 to 180,000, and 0 where none"
 abbrev pub inside : ℤ → Bool
@@ -61,5 +68,5 @@ axisOk x = leb (x .state) faulty && inside (x .m) && (not (eqb (x .state) none) 
 unfoldable pub inRange : State → Bool
 inRange u =
     nodeOk (u .node) && networkOk (u .network) && savesOk (u .saves) && inTable (u .running) && errorsOk (u .errors)
-    && elapsedOk (u .running .heartbeat) (u .heartbeat) && countsOk (u .running .pdo) (u .pdo)
-    && transferOk (u .one) && transferOk (u .two) && axisOk (u .x) && axisOk (u .y)
+    && elapsedOk (u .running .heartbeat) (u .heartbeat) && countsOk (pdoSettings First (u .running)) (pdoCounts First u)
+    && transfersOk (u .transfers) && axisOk (u .x) && axisOk (u .y)

@@ -11,13 +11,16 @@ use Rattle.rules.specs.declared.objects.Fixed.{Fixed}
 use Rattle.rules.specs.declared.objects.Fixed.the-variants.{DeviceType, ErrorRegister, SyncIdentifier, SaveCount, LoadCount, EmergencyIdentifier, IdentityCount, Vendor, Product, Revision, Serial, ServerCount, RequestIdentifier, ReplyIdentifier, PdoCount, MappingCount, Mapped, Blocks}
 use Rattle.rules.specs.declared.objects.Object.{Object}
 use Rattle.rules.specs.declared.objects.Object.the-variants.{Const, ErrorCount, ErrorEntry, Name, Save, Load, Filled, Angle, Of}
+use Rattle.rules.specs.declared.objects.PdoNumber.{PdoNumber}
+use Rattle.rules.specs.declared.objects.PdoSetting.{PdoSetting}
+use Rattle.rules.specs.declared.objects.PdoSetting.the-variants.{On, Transmission, Timer}
 use Rattle.rules.specs.declared.objects.Setting.{Setting}
-use Rattle.rules.specs.declared.objects.Setting.the-variants.{Heartbeat, On, Transmission, Timer, Resolution, Operating, Preset, Offset, Differential}
+use Rattle.rules.specs.declared.objects.Setting.the-variants.{Heartbeat, Pdo, Resolution, Operating, Preset, Offset, Differential}
 use Rattle.rules.specs.declared.parts.Reading.{Reading}
 use Rattle.rules.specs.declared.requests.Got.{Got}
 use Rattle.rules.specs.declared.requests.Got.the-variants.{Number, Text, Missing}
 use Rattle.rules.specs.Angle.{angle}
-use Rattle.rules.specs.Cells.{Rest, running, errors, kept, rest, get, readingIn}
+use Rattle.rules.specs.Cells.{Rest, running, errors, kept, axis, rest, get}
 use Rattle.rules.specs.Errors.{register}
 use Rattle.rules.specs.Frames.{requestsAt, repliesAt}
 use Rattle.rules.specs.Numbers.{unsigned}
@@ -31,33 +34,36 @@ abbrev pub mapping : Axis → ℕ
 mapping X = 0x60100010
 mapping Y = 0x60200010
 
--- the objects that no request changes
-unfoldable pub fixedValue : Fixed → Rest → ℕ
-fixedValue DeviceType t = 0x0002019A
-fixedValue ErrorRegister t = register (t .spoiled) (t .x .state) (t .y .state)
-fixedValue SyncIdentifier t = 0x80
-fixedValue SaveCount t = 1
-fixedValue LoadCount t = 1
-fixedValue EmergencyIdentifier t = 0x80 + t .node
-fixedValue IdentityCount t = 4
-fixedValue Vendor t = t .identity .vendor
-fixedValue Product t = t .identity .product
-fixedValue Revision t = t .identity .revision
-fixedValue Serial t = t .identity .serial
-fixedValue (ServerCount c) t = 2
-fixedValue (RequestIdentifier c) t = requestsAt c + t .node
-fixedValue (ReplyIdentifier c) t = repliesAt c + t .node
-fixedValue PdoCount t = 5
-fixedValue MappingCount t = 2
-fixedValue (Mapped a) t = mapping a
-fixedValue Blocks t = t .blocks
+-- the objects that no request changes, by the error register and what no request changes
+unfoldable pub fixedValue : Fixed → ℕ → Rest → ℕ
+fixedValue DeviceType e t = 0x0002019A
+fixedValue ErrorRegister e t = e
+fixedValue SyncIdentifier e t = 0x80
+fixedValue SaveCount e t = 1
+fixedValue LoadCount e t = 1
+fixedValue EmergencyIdentifier e t = 0x80 + t .node
+fixedValue IdentityCount e t = 4
+fixedValue Vendor e t = t .identity .vendor
+fixedValue Product e t = t .identity .product
+fixedValue Revision e t = t .identity .revision
+fixedValue Serial e t = t .identity .serial
+fixedValue (ServerCount c) e t = 2
+fixedValue (RequestIdentifier c) e t = requestsAt c + t .node
+fixedValue (ReplyIdentifier c) e t = repliesAt c + t .node
+fixedValue (PdoCount n) e t = 5
+fixedValue MappingCount e t = 2
+fixedValue (Mapped a) e t = mapping a
+fixedValue Blocks e t = t .blocks
 
 -- a setting as the number that is read
+abbrev pub pdoValue : PdoNumber → PdoSetting → ℕ → ℕ → ℕ
+pdoValue n On node x = cond (eqb x 0) (offValue n node) (onValue n node)
+pdoValue n Transmission node x = x
+pdoValue n Timer node x = x
+
 unfoldable pub settingValue : (s : Setting) → ℕ → Held s → ℕ
 settingValue Heartbeat node x = x
-settingValue On node x = cond (eqb x 0) (offValue node) (onValue node)
-settingValue Transmission node x = x
-settingValue Timer node x = x
+settingValue (Pdo n p) node x = pdoValue n p node x
 settingValue Resolution node x = x
 settingValue (Operating a) node x = x
 settingValue (Preset a) node x = unsigned 16 x
@@ -73,8 +79,11 @@ angleRead x r operating offset differential =
 unfoldable pub entryRead : ℕ → ErrorList → Got
 entryRead n l = cond (leb n (l .length)) (Number 4 (getD (l .codes) (n - 1) 0)) (Missing 0x08000024)
 
+abbrev pub registerIn : State → ℕ
+registerIn u = register (get rest u .spoiled) (get (axis X) u .state) (get (axis Y) u .state)
+
 abbrev pub readOf : Object → State → Got
-readOf (Const f) u = Number (fixedRow f .size) (fixedValue f (get rest u))
+readOf (Const f) u = Number (fixedRow f .size) (fixedValue f (registerIn u) (get rest u))
 readOf ErrorCount u = Number 1 (get errors u .length)
 readOf (ErrorEntry n) u = entryRead n (get errors u)
 readOf Name u = Text
@@ -82,5 +91,5 @@ readOf Save u = Number 4 1
 readOf Load u = Number 4 1
 readOf Filled u = Number 2 (get kept u .filled)
 readOf (Angle a) u =
-    angleRead (readingIn a (get rest u)) (get (running Resolution) u) (get (running (Operating a)) u) (get (running (Offset a)) u) (get (running (Differential a)) u)
+    angleRead (get (axis a) u) (get (running Resolution) u) (get (running (Operating a)) u) (get (running (Offset a)) u) (get (running (Differential a)) u)
 readOf (Of s) u = Number (settingRow s .size) (settingValue s (get rest u .node) (get (running s) u))

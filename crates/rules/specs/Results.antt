@@ -4,6 +4,10 @@ use Prim.Native.Nat.{ℕ}
 use Rattle.rules.specs.declared.events.Frame.{Frame}
 use Rattle.rules.specs.State.{State}
 
+-- "0 to 2 frames": the most of one answer
+abbrev pub mostFrames : ℕ
+mostFrames = 2
+
 -- the number of the refusal or 0, the device and the journal then, and the frames sent, in their order
 pub record Result : Type 0 where
   pub refusal : ℕ

@@ -5,7 +5,9 @@ use mathlib.Core.List.{List, [], _∷_}
 use Prim.Native.Nat.{ℕ}
 use lib.IntN.{ℤ, pos}
 use lib.ListN.{getD}
-use Rattle.rules.specs.declared.objects.Setting.the-variants.{Heartbeat, Transmission}
+use Rattle.rules.specs.declared.objects.PdoNumber.the-variants.{First}
+use Rattle.rules.specs.declared.objects.PdoSetting.the-variants.{Transmission}
+use Rattle.rules.specs.declared.objects.Setting.the-variants.{Heartbeat, Pdo}
 use Rattle.rules.specs.declared.requests.Zeroed.{Zeroed}
 use Rattle.rules.specs.declared.requests.Zeroed.the-variants.{To, Refused}
 use Rattle.rules.specs.Angle.{angle, zeroed}
@@ -35,8 +37,8 @@ asked =
     presetOn (pos 12345) 10 (pos 0) ∷ angleOf (pos 12345) 10 2 (minus 1234) ∷
     presetOn (pos 32000) 1 (minus 768) ∷ presetOn (pos 32000) 1 (minus 769) ∷
     passes (within Heartbeat 0) ∷ passes (within Heartbeat 25) ∷ passes (within Heartbeat 24) ∷
-    passes (within Transmission 240) ∷ passes (within Transmission 254) ∷ passes (within Transmission 0) ∷
-    passes (within Transmission 241) ∷ passes (within Transmission 253) ∷
+    passes (within (Pdo First Transmission) 240) ∷ passes (within (Pdo First Transmission) 254) ∷ passes (within (Pdo First Transmission) 0) ∷
+    passes (within (Pdo First Transmission) 241) ∷ passes (within (Pdo First Transmission) 253) ∷
     begins (getD firstSegment 0 0) ∷ begins (getD lastSegment 0 0) ∷ []
 
 -- what the paper says

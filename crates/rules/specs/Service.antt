@@ -11,9 +11,13 @@ use Rattle.rules.specs.declared.objects.Channel.{Channel}
 use Rattle.rules.specs.declared.objects.Channel.the-variants.{One, Two}
 use Rattle.rules.specs.declared.objects.Found.{Found}
 use Rattle.rules.specs.declared.objects.Found.the-variants.{At, NoObject, NoSubindex}
+use Rattle.rules.specs.declared.objects.PdoNumber.{PdoNumber}
+use Rattle.rules.specs.declared.objects.PdoSetting.{PdoSetting}
+use Rattle.rules.specs.declared.objects.PdoSetting.the-variants.{On, Transmission, Timer}
 use Rattle.rules.specs.declared.objects.Setting.{Setting}
-use Rattle.rules.specs.declared.objects.Setting.the-variants.{Heartbeat, On, Transmission, Timer, Resolution, Operating, Preset, Offset, Differential}
+use Rattle.rules.specs.declared.objects.Setting.the-variants.{Heartbeat, Pdo, Resolution, Operating, Preset, Offset, Differential}
 use Rattle.rules.specs.declared.parts.PdoCounts.{PdoCounts}
+use Rattle.rules.specs.declared.parts.Transfer.{Transfer}
 use Rattle.rules.specs.declared.requests.Change.{Change}
 use Rattle.rules.specs.declared.requests.Change.the-variants.{Keep, Put, Zero, Empty, Fill}
 use Rattle.rules.specs.declared.requests.Command.{Command}
@@ -23,24 +27,25 @@ use Rattle.rules.specs.declared.requests.Got.the-variants.{Number, Text,
 use Rattle.rules.specs.declared.requests.Outcome.{Outcome}
 use Rattle.rules.specs.declared.requests.Verdict.{Verdict}
 use Rattle.rules.specs.declared.requests.Verdict.the-variants.{Pass, Abort}
-use Rattle.rules.specs.Block.{block, channelNumber}
-use Rattle.rules.specs.Cells.{Kept, Cell, running, errors, kept, heartbeat, pdo, transfer, rest, Content, get, stateOf}
+use Rattle.rules.specs.declared.settings.Settings.{Settings}
+use Rattle.rules.specs.Block.{block, channelNumber, load}
+use Rattle.rules.specs.Cells.{Kept, Cell, running, errors, kept, heartbeat, pdo, transfer, axis, rest, Content, get, stateOf}
 use Rattle.rules.specs.Errors.{noErrors}
 use Rattle.rules.specs.Journal.{putBehind}
 use Rattle.rules.specs.Numbers.{signed}
-use Rattle.rules.specs.Objects.{sameObject, settingRow, objectAt}
+use Rattle.rules.specs.Objects.{sameObject, settingRow, onPdo, objectAt}
 use Rattle.rules.specs.Reads.{readOf}
 use Rattle.rules.specs.Replies.{written, readNumber, readText, aborted, firstSegment, lastSegment, wrongToggle, noTransfer}
 use Rattle.rules.specs.Requests.{command, index, subindex, valueFor}
-use Rattle.rules.specs.Settings.{Held}
-use Rattle.rules.specs.State.{State, operational, preOperational, absent, atStart, afterSeven, noCounts}
+use Rattle.rules.specs.Settings.{Held, factory}
+use Rattle.rules.specs.State.{State, operational, preOperational, absent, atStart, afterSeven, transferring, noCounts}
 use Rattle.rules.specs.Writes.{change, writeCheck}
 
 -- a reply, with the transfer after it and the change; and no reply
 abbrev pub replied : List ℕ → ℕ → Change → Outcome
-replied bytes t e = record { replies = true; bytes = bytes; transfer = t; change = e }
+replied bytes stage e = record { replies = true; bytes = bytes; transfer = transferring stage; change = e }
 
-abbrev pub silent : ℕ → Outcome
+abbrev pub silent : Transfer → Outcome
 silent t = record { replies = false; bytes = 0 ∷ 0 ∷ 0 ∷ 0 ∷ 0 ∷ 0 ∷ 0 ∷ 0 ∷ []; transfer = t; change = Keep }
 
 -- "An abort, sent or received, the last segment or any new initiate ends that channel's transfer"
@@ -58,10 +63,10 @@ onRead request Text = replied (readText request) atStart Keep
 onRead request (Missing code) = refuse request code
 
 -- "toggle starts at 0"; "No transfer" is looked at first
-unfoldable pub onSegment : ℕ → ℕ → Outcome
+unfoldable pub onSegment : ℕ → Transfer → Outcome
 onSegment toggle t =
-    cond (eqb t absent) (replied noTransfer absent Keep)
-    (cond (eqb t atStart) (cond (eqb toggle 0) (replied firstSegment afterSeven Keep) (replied wrongToggle absent Keep))
+    cond (eqb (t .stage) absent) (replied noTransfer absent Keep)
+    (cond (eqb (t .stage) atStart) (cond (eqb toggle 0) (replied firstSegment afterSeven Keep) (replied wrongToggle absent Keep))
     (cond (eqb toggle 1) (replied lastSegment absent Keep) (replied wrongToggle absent Keep)))
 
 -- "Checks in order: first byte; object (06020000h); subindex (06090011h) …"; "All others get 05040001h"; "80h ends the transfer, no reply"
@@ -73,7 +78,7 @@ onCommand c request Read (At o) u = onRead request (readOf o u)
 onCommand c request Read NoObject u = refuse request 0x06020000
 onCommand c request Read NoSubindex u = refuse request 0x06090011
 onCommand c request (Segment toggle) f u = onSegment toggle (get (transfer c) u)
-onCommand c request End f u = silent absent
+onCommand c request End f u = silent (transferring absent)
 onCommand c request Unknown f u = refuse request 0x05040001
 
 -- "Served in Pre-Operational and Operational"
@@ -87,11 +92,14 @@ outcome c request u =
     (silent (get (transfer c) u))
 
 -- a written value as a setting holds it; bit 31 of 1800:1 is "off"
+abbrev pub pdoValued : PdoSetting → ℕ → ℕ
+pdoValued On v = cond (ltb v 0x80000000) 1 0
+pdoValued Transmission v = v
+pdoValued Timer v = v
+
 abbrev pub valued : (s : Setting) → ℕ → Held s
 valued Heartbeat v = v
-valued On v = cond (ltb v 0x80000000) 1 0
-valued Transmission v = v
-valued Timer v = v
+valued (Pdo n p) v = pdoValued p v
 valued Resolution v = v
 valued (Operating a) v = v
 valued (Preset a) v = signed 16 v
@@ -107,9 +115,7 @@ sameAxis Y Y = true
 -- an axis's preset and offset
 abbrev pub zeroedAt : Axis → ℤ → ℤ → (s : Setting) → Held s → Held s
 zeroedAt a preset offset Heartbeat x = x
-zeroedAt a preset offset On x = x
-zeroedAt a preset offset Transmission x = x
-zeroedAt a preset offset Timer x = x
+zeroedAt a preset offset (Pdo n p) x = x
 zeroedAt a preset offset Resolution x = x
 zeroedAt a preset offset (Operating b) x = x
 zeroedAt a preset offset (Preset b) x = cond (sameAxis a b) preset x
@@ -122,22 +128,34 @@ onSetting Keep s x = x
 onSetting (Put t v) s x = cond (sameObject (settingRow s) (settingRow t)) (valued s v) x
 onSetting (Zero a preset offset) s x = zeroedAt a preset offset s x
 onSetting Empty s x = x
-onSetting (Fill c kind t) s x = x
+onSetting (Fill c kind) s x = x
 
 abbrev pub onErrors : Change → ErrorList → ErrorList
 onErrors Keep x = x
 onErrors (Put s v) x = x
 onErrors (Zero a preset offset) x = x
 onErrors Empty x = noErrors
-onErrors (Fill c kind t) x = x
+onErrors (Fill c kind) x = x
 
--- the next block filled; "Both update the stored settings"
-abbrev pub onKept : Change → Kept → Kept
-onKept Keep x = x
-onKept (Put s v) x = x
-onKept (Zero a preset offset) x = x
-onKept Empty x = x
-onKept (Fill c kind t) x = record {
+-- what is stored: "A save fills the next block with running settings, a load with factory settings"
+abbrev pub storing : ℕ → Settings → Settings
+storing kind t = cond (eqb kind load) factory t
+
+-- the settings that stand beside a change, factory where it stores none
+abbrev pub stores : Change → Settings → Settings
+stores Keep t = factory
+stores (Put s v) t = factory
+stores (Zero a preset offset) t = factory
+stores Empty t = factory
+stores (Fill c kind) t = storing kind t
+
+-- the next block filled with settings; "Both update the stored settings"
+abbrev pub onKept : Change → Settings → Kept → Kept
+onKept Keep t x = x
+onKept (Put s v) t x = x
+onKept (Zero a preset offset) t x = x
+onKept Empty t x = x
+onKept (Fill c kind) t x = record {
   filled = x .filled + 1;
   stored = t;
   journal = putBehind (x .filled) (block (x .filled + 1) (channelNumber c) kind t) (x .journal);
@@ -149,32 +167,34 @@ onHeartbeat Keep x = x
 onHeartbeat (Put s v) x = cond (eqb (settingRow s .index) 0x1017) 0 x
 onHeartbeat (Zero a preset offset) x = x
 onHeartbeat Empty x = x
-onHeartbeat (Fill c kind t) x = x
+onHeartbeat (Fill c kind) x = x
 
 -- "so does an accepted write to 1800": it zeroes the PDO's elapsed and SYNC counts
-abbrev pub onPdo : Change → PdoCounts → PdoCounts
-onPdo Keep x = x
-onPdo (Put s v) x = cond (eqb (settingRow s .index) 0x1800) noCounts x
-onPdo (Zero a preset offset) x = x
-onPdo Empty x = x
-onPdo (Fill c kind t) x = x
+abbrev pub onCounts : PdoNumber → Change → PdoCounts → PdoCounts
+onCounts n Keep x = x
+onCounts n (Put s v) x = cond (eqb (settingRow s .index) (onPdo n)) noCounts x
+onCounts n (Zero a preset offset) x = x
+onCounts n Empty x = x
+onCounts n (Fill c kind) x = x
 
 -- each channel has its own transfer
-abbrev pub onTransfer : Channel → Channel → ℕ → ℕ → ℕ
+abbrev pub onTransfer : Channel → Channel → Transfer → Transfer → Transfer
 onTransfer One One next x = next
 onTransfer One Two next x = x
 onTransfer Two One next x = x
 onTransfer Two Two next x = next
 
-abbrev pub act : Channel → Outcome → (k : Cell) → Content k → Content k
-act c o (running s) x = onSetting (o .change) s x
-act c o errors x = onErrors (o .change) x
-act c o kept x = onKept (o .change) x
-act c o heartbeat x = onHeartbeat (o .change) x
-act c o pdo x = onPdo (o .change) x
-act c o (transfer b) x = onTransfer c b (o .transfer) x
-act c o rest x = x
+-- the outcome's act on a cell, with the settings that it would store
+abbrev pub act : Channel → Outcome → Settings → (k : Cell) → Content k → Content k
+act c o t (running s) x = onSetting (o .change) s x
+act c o t errors x = onErrors (o .change) x
+act c o t kept x = onKept (o .change) t x
+act c o t heartbeat x = onHeartbeat (o .change) x
+act c o t (pdo n) x = onCounts n (o .change) x
+act c o t (transfer b) x = onTransfer c b (o .transfer) x
+act c o t (axis a) x = x
+act c o t rest x = x
 
 -- the state after an outcome on a channel
 abbrev pub after : Channel → Outcome → State → State
-after c o u = stateOf (λ k. act c o k (get k u))
+after c o u = stateOf (λ k. act c o (stores (o .change) (u .running)) k (get k u))

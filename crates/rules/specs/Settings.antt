@@ -6,8 +6,12 @@ use lib.Dec.{eqb, leb}
 use lib.IntN.{ℤ, pos}
 use Rattle.rules.specs.declared.objects.Axis.{Axis}
 use Rattle.rules.specs.declared.objects.Axis.the-variants.{X, Y}
+use Rattle.rules.specs.declared.objects.PdoNumber.{PdoNumber}
+use Rattle.rules.specs.declared.objects.PdoNumber.the-variants.{First}
+use Rattle.rules.specs.declared.objects.PdoSetting.{PdoSetting}
+use Rattle.rules.specs.declared.objects.PdoSetting.the-variants.{On, Transmission, Timer}
 use Rattle.rules.specs.declared.objects.Setting.{Setting}
-use Rattle.rules.specs.declared.objects.Setting.the-variants.{Heartbeat, On, Transmission, Timer, Resolution, Operating, Preset, Offset, Differential}
+use Rattle.rules.specs.declared.objects.Setting.the-variants.{Heartbeat, Pdo, Resolution, Operating, Preset, Offset, Differential}
 use Rattle.rules.specs.declared.settings.AxisSettings.{AxisSettings}
 use Rattle.rules.specs.declared.settings.PdoSettings.{PdoSettings}
 use Rattle.rules.specs.declared.settings.Settings.{Settings}
@@ -16,15 +20,13 @@ use Rattle.rules.specs.Numbers.{between, fits}
 -- every setting, "all that a block carries"
 abbrev pub settings : List Setting
 settings =
-    Heartbeat ∷ On ∷ Transmission ∷ Timer ∷ Resolution ∷ Operating X ∷ Operating Y ∷
+    Heartbeat ∷ Pdo First On ∷ Pdo First Transmission ∷ Pdo First Timer ∷ Resolution ∷ Operating X ∷ Operating Y ∷
     Preset X ∷ Offset X ∷ Differential X ∷ Preset Y ∷ Offset Y ∷ Differential Y ∷ []
 
 -- what a setting holds
 abbrev pub Held : Setting → Type 0
 Held Heartbeat = ℕ
-Held On = ℕ
-Held Transmission = ℕ
-Held Timer = ℕ
+Held (Pdo n p) = ℕ
 Held Resolution = ℕ
 Held (Operating a) = ℕ
 Held (Preset a) = ℤ
@@ -35,11 +37,18 @@ abbrev pub axisSettings : Axis → Settings → AxisSettings
 axisSettings X t = t .x
 axisSettings Y t = t .y
 
+-- a PDO's settings, by its number: there is one PDO
+abbrev pub pdoSettings : PdoNumber → Settings → PdoSettings
+pdoSettings First t = t .pdo
+
+abbrev pub pdoSetting : PdoSetting → PdoSettings → ℕ
+pdoSetting On s = s .on
+pdoSetting Transmission s = s .transmission
+pdoSetting Timer s = s .timer
+
 abbrev pub setting : (s : Setting) → Settings → Held s
 setting Heartbeat t = t .heartbeat
-setting On t = t .pdo .on
-setting Transmission t = t .pdo .transmission
-setting Timer t = t .pdo .timer
+setting (Pdo n p) t = pdoSetting p (pdoSettings n t)
 setting Resolution t = t .resolution
 setting (Operating a) t = axisSettings a t .operating
 setting (Preset a) t = axisSettings a t .preset
@@ -50,10 +59,13 @@ setting (Differential a) t = axisSettings a t .differential
 abbrev pub axisOf : ((s : Setting) → Held s) → Axis → AxisSettings
 axisOf f a = record { operating = f (Operating a); preset = f (Preset a); offset = f (Offset a); differential = f (Differential a) }
 
+abbrev pub pdoOf : ((s : Setting) → Held s) → PdoNumber → PdoSettings
+pdoOf f n = record { on = f (Pdo n On); transmission = f (Pdo n Transmission); timer = f (Pdo n Timer) }
+
 abbrev pub settingsOf : ((s : Setting) → Held s) → Settings
 settingsOf f = record {
   heartbeat = f Heartbeat;
-  pdo = record { on = f On; transmission = f Transmission; timer = f Timer };
+  pdo = pdoOf f First;
   resolution = f Resolution;
   x = axisOf f X;
   y = axisOf f Y;
@@ -67,11 +79,14 @@ abbrev pub timed : ℕ → Bool
 timed t = between 254 255 t
 
 -- the range of a setting, with the ends that its own length sets
+abbrev pub pdoWithin : PdoSetting → ℕ → Bool
+pdoWithin On x = leb x 1
+pdoWithin Transmission x = synchronous x || timed x
+pdoWithin Timer x = leb x 65535
+
 abbrev pub within : (s : Setting) → Held s → Bool
 within Heartbeat x = eqb x 0 || between 25 65535 x
-within On x = leb x 1
-within Transmission x = synchronous x || timed x
-within Timer x = leb x 65535
+within (Pdo n p) x = pdoWithin p x
 within Resolution x = eqb x 1 || eqb x 10 || eqb x 100 || eqb x 1000
 within (Operating a) x = leb x 3
 within (Preset a) x = fits 16 x

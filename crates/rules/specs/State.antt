@@ -1,13 +1,19 @@
 -- The device and what moves it: the device record and the journal it is lent.
-use mathlib.Core.List.{List}
+use mathlib.Core.List.{List, [], _∷_}
 use Prim.Native.Nat.{ℕ}
+use lib.ListN.{getD}
 use Rattle.rules.specs.declared.errors.ErrorList.{ErrorList}
 use Rattle.rules.specs.declared.objects.Axis.{Axis}
 use Rattle.rules.specs.declared.objects.Axis.the-variants.{X, Y}
+use Rattle.rules.specs.declared.objects.Channel.{Channel}
+use Rattle.rules.specs.declared.objects.Channel.the-variants.{One, Two}
+use Rattle.rules.specs.declared.objects.PdoNumber.{PdoNumber}
+use Rattle.rules.specs.declared.objects.PdoNumber.the-variants.{First}
 use Rattle.rules.specs.declared.parts.Identity.{Identity}
 use Rattle.rules.specs.declared.parts.PdoCounts.{PdoCounts}
 use Rattle.rules.specs.declared.parts.Reading.{Reading}
 use Rattle.rules.specs.declared.parts.Saves.{Saves}
+use Rattle.rules.specs.declared.parts.Transfer.{Transfer}
 use Rattle.rules.specs.declared.settings.Settings.{Settings}
 
 -- the device record, field by field, and the journal's bytes
@@ -20,8 +26,7 @@ pub record State : Type 0 where
   pub errors : ErrorList
   pub heartbeat : ℕ
   pub pdo : PdoCounts
-  pub one : ℕ
-  pub two : ℕ
+  pub transfers : List Transfer
   pub x : Reading
   pub y : Reading
   pub journal : List ℕ
@@ -46,6 +51,20 @@ atStart = 1
 abbrev pub afterSeven : ℕ
 afterSeven = 2
 
+-- each channel has its own, channel 1 the first
+abbrev pub transferring : ℕ → Transfer
+transferring stage = record { stage = stage }
+
+abbrev pub noTransfers : List Transfer
+noTransfers = transferring absent ∷ transferring absent ∷ []
+
+abbrev pub place : Channel → ℕ
+place One = 0
+place Two = 1
+
+abbrev pub transferOf : Channel → State → Transfer
+transferOf c u = getD (u .transfers) (place c) (transferring absent)
+
 -- "axis none, good or faulty"
 abbrev pub none : ℕ
 none = 0
@@ -59,6 +78,10 @@ faulty = 2
 -- the PDO's counts zeroed
 abbrev pub noCounts : PdoCounts
 noCounts = record { elapsed = 0; syncs = 0 }
+
+-- a PDO's counts, by its number
+abbrev pub pdoCounts : PdoNumber → State → PdoCounts
+pdoCounts First u = u .pdo
 
 abbrev pub reading : Axis → State → Reading
 reading X u = u .x
@@ -75,8 +98,7 @@ moved network heartbeat pdo errors x y u = record {
   errors = errors;
   heartbeat = heartbeat;
   pdo = pdo;
-  one = u .one;
-  two = u .two;
+  transfers = u .transfers;
   x = x;
   y = y;
   journal = u .journal;

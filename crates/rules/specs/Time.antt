@@ -4,10 +4,13 @@ use mathlib.Core.List.{List, [], _∷_, _++_}
 use Prim.Native.Nat.{ℕ, _+_}
 use lib.Dec.{eqb, leb}
 use Rattle.rules.specs.declared.events.Frame.{Frame}
+use Rattle.rules.specs.declared.objects.PdoNumber.{PdoNumber}
+use Rattle.rules.specs.declared.objects.PdoNumber.the-variants.{First}
+use Rattle.rules.specs.declared.parts.PdoCounts.{PdoCounts}
 use Rattle.rules.specs.Frames.{heartbeat, pdoFrame}
-use Rattle.rules.specs.Results.{Result, accepted, ignored}
-use Rattle.rules.specs.Settings.{synchronous, timed}
-use Rattle.rules.specs.State.{State, operational, withCounts}
+use Rattle.rules.specs.Results.{Result, accepted}
+use Rattle.rules.specs.Settings.{synchronous, timed, pdoSettings}
+use Rattle.rules.specs.State.{State, operational, pdoCounts, withCounts}
 
 -- "A tick adds to the … count where 1017 is not 0; on reaching the period one heartbeat … is sent and the count is 0", "likewise the PDO timer"
 abbrev pub adds : Bool → ℕ → Bool
@@ -20,38 +23,49 @@ abbrev pub elapsedAfter : Bool → ℕ → ℕ → ℕ → ℕ
 elapsedAfter runs period elapsed ms = cond (adds runs period) (cond (leb period (elapsed + ms)) 0 (elapsed + ms)) elapsed
 
 -- "the PDO timer, in Operational, PDO on, type 254 or 255, timer not 0"
-abbrev pub sending : State → Bool
-sending u = eqb (u .network) operational && eqb (u .running .pdo .on) 1
+abbrev pub sending : PdoNumber → State → Bool
+sending n u = eqb (u .network) operational && eqb (pdoSettings n (u .running) .on) 1
 
-abbrev pub timerRuns : State → Bool
-timerRuns u = sending u && timed (u .running .pdo .transmission)
+abbrev pub timerRuns : PdoNumber → State → Bool
+timerRuns n u = sending n u && timed (pdoSettings n (u .running) .transmission)
 
 abbrev pub when : Bool → Frame → List Frame
 when due f = cond due (f ∷ []) []
 
-abbrev pub pdoOf : State → Frame
-pdoOf u = pdoFrame (u .node) (u .x) (u .y) (u .running)
+abbrev pub pdoOf : PdoNumber → State → Frame
+pdoOf n u = pdoFrame n (u .node) (u .x) (u .y) (u .running)
+
+-- what a tick makes of a PDO's counts, and what it sends of it
+abbrev pub ticked : PdoNumber → ℕ → State → PdoCounts
+ticked n ms u =
+    let counts = pdoCounts n u in
+    record { elapsed = elapsedAfter (timerRuns n u) (pdoSettings n (u .running) .timer) (counts .elapsed) ms; syncs = counts .syncs }
+
+abbrev pub tickSends : PdoNumber → ℕ → State → List Frame
+tickSends n ms u =
+    when (reaches (timerRuns n u) (pdoSettings n (u .running) .timer) (pdoCounts n u .elapsed) ms) (pdoOf n u)
 
 unfoldable pub onTick : ℕ → State → Result
 onTick ms u =
     let period = u .running .heartbeat in
-    let timer = u .running .pdo .timer in
-    accepted
-    (withCounts (elapsedAfter true period (u .heartbeat) ms)
-    (record { elapsed = elapsedAfter (timerRuns u) timer (u .pdo .elapsed) ms; syncs = u .pdo .syncs })
-    u)
-    (when (reaches true period (u .heartbeat) ms) (heartbeat (u .node) (u .network))
-    ++ when (reaches (timerRuns u) timer (u .pdo .elapsed) ms) (pdoOf u))
+    accepted (withCounts (elapsedAfter true period (u .heartbeat) ms) (ticked First ms u) u)
+    (when (reaches true period (u .heartbeat) ms) (heartbeat (u .node) (u .network)) ++ tickSends First ms u)
 
 -- "A SYNC … counts in Operational with PDO on and type 1 to 240; at the type the PDO goes out and the count is 0"
-abbrev pub syncCounts : State → Bool
-syncCounts u = sending u && synchronous (u .running .pdo .transmission)
+abbrev pub syncCounts : PdoNumber → State → Bool
+syncCounts n u = sending n u && synchronous (pdoSettings n (u .running) .transmission)
+
+abbrev pub syncDue : PdoNumber → State → Bool
+syncDue n u = leb (pdoSettings n (u .running) .transmission) (pdoCounts n u .syncs + 1)
+
+-- what a SYNC makes of a PDO's counts, and what it sends of it
+abbrev pub synced : PdoNumber → State → PdoCounts
+synced n u =
+    let counts = pdoCounts n u in
+    cond (syncCounts n u) (record { elapsed = counts .elapsed; syncs = cond (syncDue n u) 0 (counts .syncs + 1) }) counts
+
+abbrev pub syncSends : PdoNumber → State → List Frame
+syncSends n u = when (syncCounts n u && syncDue n u) (pdoOf n u)
 
 unfoldable pub onSync : State → Result
-onSync u =
-    let due = leb (u .running .pdo .transmission) (u .pdo .syncs + 1) in
-    cond (syncCounts u)
-    (accepted
-    (withCounts (u .heartbeat) (record { elapsed = u .pdo .elapsed; syncs = cond due 0 (u .pdo .syncs + 1) }) u)
-    (when due (pdoOf u)))
-    (ignored u)
+onSync u = accepted (withCounts (u .heartbeat) (synced First u) u) (syncSends First u)

@@ -6,8 +6,11 @@ use Rattle.rules.specs.declared.objects.Axis.{Axis}
 use Rattle.rules.specs.declared.objects.Channel.{Channel}
 use Rattle.rules.specs.declared.objects.Object.{Object}
 use Rattle.rules.specs.declared.objects.Object.the-variants.{Const, ErrorCount, ErrorEntry, Name, Save, Load, Filled, Angle, Of}
+use Rattle.rules.specs.declared.objects.PdoNumber.{PdoNumber}
+use Rattle.rules.specs.declared.objects.PdoSetting.{PdoSetting}
+use Rattle.rules.specs.declared.objects.PdoSetting.the-variants.{On, Transmission, Timer}
 use Rattle.rules.specs.declared.objects.Setting.{Setting}
-use Rattle.rules.specs.declared.objects.Setting.the-variants.{Heartbeat, On, Transmission, Timer, Resolution, Operating, Preset, Offset, Differential}
+use Rattle.rules.specs.declared.objects.Setting.the-variants.{Heartbeat, Pdo, Resolution, Operating, Preset, Offset, Differential}
 use Rattle.rules.specs.declared.requests.Change.{Change}
 use Rattle.rules.specs.declared.requests.Change.the-variants.{Keep, Put, Zero, Empty, Fill}
 use Rattle.rules.specs.declared.requests.Verdict.{Verdict}
@@ -16,10 +19,11 @@ use Rattle.rules.specs.declared.requests.Zeroed.{Zeroed}
 use Rattle.rules.specs.declared.requests.Zeroed.the-variants.{To, Refused}
 use Rattle.rules.specs.Angle.{zeroed}
 use Rattle.rules.specs.Block.{save, load}
-use Rattle.rules.specs.Cells.{running, kept, rest, get, readingIn}
+use Rattle.rules.specs.Cells.{running, kept, axis, rest, get}
+use Rattle.rules.specs.Frames.{pdoAt}
 use Rattle.rules.specs.Numbers.{signed}
 use Rattle.rules.specs.Objects.{rowOf}
-use Rattle.rules.specs.Settings.{within, factory}
+use Rattle.rules.specs.Settings.{within, pdoWithin}
 use Rattle.rules.specs.State.{State}
 
 -- one check after the other: the first that refuses gives its code
@@ -38,18 +42,21 @@ lengthCheck given own =
     cond (eqb given 0) Pass (unless (not (ltb own given)) 0x06070012 then unless (not (ltb given own)) 0x06070013)
 
 -- "40000180h+node, or C0000180h+node (off)"
-abbrev pub onValue : ℕ → ℕ
-onValue node = 0x40000180 + node
+abbrev pub onValue : PdoNumber → ℕ → ℕ
+onValue n node = 0x40000000 + pdoAt n + node
 
-abbrev pub offValue : ℕ → ℕ
-offValue node = 0xC0000180 + node
+abbrev pub offValue : PdoNumber → ℕ → ℕ
+offValue n node = 0xC0000000 + pdoAt n + node
 
 -- the accepted values of a setting; every i16 is one
+abbrev pub pdoAccepts : ℕ → PdoNumber → PdoSetting → ℕ → Bool
+pdoAccepts node n On v = eqb v (onValue n node) || eqb v (offValue n node)
+pdoAccepts node n Transmission v = pdoWithin Transmission v
+pdoAccepts node n Timer v = pdoWithin Timer v
+
 abbrev pub accepts : ℕ → Setting → ℕ → Bool
 accepts node Heartbeat v = within Heartbeat v
-accepts node On v = eqb v (onValue node) || eqb v (offValue node)
-accepts node Transmission v = within Transmission v
-accepts node Timer v = within Timer v
+accepts node (Pdo n p) v = pdoAccepts node n p v
 accepts node Resolution v = within Resolution v
 accepts node (Operating a) v = within (Operating a) v
 accepts node (Preset a) v = true
@@ -75,7 +82,7 @@ roomCheck spoiled filled blocks = unless (eqb spoiled 0) 0x06060000 then unless 
 -- what a preset makes of its axis, by "6000, 6011, 6014" and the axis
 abbrev pub zeroedBy : Axis → ℕ → State → Zeroed
 zeroedBy a v u =
-    zeroed (readingIn a (get rest u)) (get (running Resolution) u) (get (running (Operating a)) u) (get (running (Differential a)) u) (signed 16 v)
+    zeroed (get (axis a) u) (get (running Resolution) u) (get (running (Operating a)) u) (get (running (Differential a)) u) (signed 16 v)
 
 abbrev pub zeroCheck : Zeroed → Verdict
 zeroCheck (To offset) = Pass
@@ -84,9 +91,7 @@ zeroCheck (Refused code) = Abort code
 -- "device state"
 abbrev pub settingCheck : Setting → ℕ → State → Verdict
 settingCheck Heartbeat v u = Pass
-settingCheck On v u = Pass
-settingCheck Transmission v u = Pass
-settingCheck Timer v u = Pass
+settingCheck (Pdo n p) v u = Pass
 settingCheck Resolution v u = Pass
 settingCheck (Operating a) v u = Pass
 settingCheck (Preset a) v u = zeroCheck (zeroedBy a v u)
@@ -116,23 +121,21 @@ zeroChange a v (Refused code) = Keep
 
 abbrev pub settingChange : Setting → ℕ → State → Change
 settingChange Heartbeat v u = Put Heartbeat v
-settingChange On v u = Put On v
-settingChange Transmission v u = Put Transmission v
-settingChange Timer v u = Put Timer v
+settingChange (Pdo n p) v u = Put (Pdo n p) v
 settingChange Resolution v u = Put Resolution v
 settingChange (Operating a) v u = Put (Operating a) v
 settingChange (Preset a) v u = zeroChange a v (zeroedBy a v u)
 settingChange (Offset a) v u = Keep
 settingChange (Differential a) v u = Put (Differential a) v
 
--- 1003:0 "empties the list"; "A save fills the next block with running settings, a load with factory settings"
+-- 1003:0 "empties the list"; a save or a load fills the next block
 abbrev pub change : Channel → Object → ℕ → State → Change
 change c (Const f) v u = Keep
 change c ErrorCount v u = Empty
 change c (ErrorEntry n) v u = Keep
 change c Name v u = Keep
-change c Save v u = Fill c save (u .running)
-change c Load v u = Fill c load factory
+change c Save v u = Fill c save
+change c Load v u = Fill c load
 change c Filled v u = Keep
 change c (Angle a) v u = Keep
 change c (Of s) v u = settingChange s v u

@@ -17,6 +17,6 @@ pub enum Event {
 #[repr(C)]
 pub struct Frame {
     pub identifier: u16,
-    pub length: u8,
+    pub length: u16,
     pub bytes: [u8; 8],
 }

@@ -9,12 +9,22 @@ pub enum Axis {
     Y,
 }
 
-// What a block of the journal carries, one object each.
-pub enum Setting {
-    Heartbeat,
+// The PDOs by their numbers: there is one.
+pub enum PdoNumber {
+    First,
+}
+
+// 1800:1, :2 and :5.
+pub enum PdoSetting {
     On,
     Transmission,
     Timer,
+}
+
+// What a block of the journal carries, one object each.
+pub enum Setting {
+    Heartbeat,
+    Pdo(PdoNumber, PdoSetting),
     Resolution,
     Operating(Axis),
     Preset(Axis),
@@ -38,7 +48,7 @@ pub enum Fixed {
     ServerCount(Channel),
     RequestIdentifier(Channel),
     ReplyIdentifier(Channel),
-    PdoCount,
+    PdoCount(PdoNumber),
     MappingCount,
     Mapped(Axis),
     Blocks,

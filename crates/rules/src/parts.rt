@@ -13,7 +13,7 @@ pub struct Identity {
 // An axis: none (0), good (1) or faulty (2), and its last good reading.
 #[repr(C)]
 pub struct Reading {
-    pub state: u8,
+    pub state: u32,
     pub m: i32,
 }
 
@@ -21,7 +21,13 @@ pub struct Reading {
 #[repr(C)]
 pub struct PdoCounts {
     pub elapsed: u16,
-    pub syncs: u8,
+    pub syncs: u16,
+}
+
+// A channel's segmented transfer: absent (0), at the start (1) or after 7 bytes (2).
+#[repr(C)]
+pub struct Transfer {
+    pub stage: u8,
 }
 
 // What the record keeps of the journal; spoiled is 1 or 0.
@@ -29,7 +35,7 @@ pub struct PdoCounts {
 pub struct Saves {
     pub blocks: u16,
     pub filled: u16,
-    pub spoiled: u8,
+    pub spoiled: u16,
     pub stored: Settings,
 }
 

@@ -2,7 +2,7 @@
 use crate::objects::Axis;
 use crate::objects::Channel;
 use crate::objects::Setting;
-use crate::settings::Settings;
+use crate::parts::Transfer;
 
 // The first byte. A write names its length in bytes, 0 for the object's own; a segment its toggle.
 pub enum Command {
@@ -38,13 +38,13 @@ pub enum Change {
     Put(Setting, u32),
     Zero(Axis, i16, i16),
     Empty,
-    Fill(Channel, u8, Settings),
+    Fill(Channel, u8),
 }
 
 // What a request brings about: a reply of eight bytes or none, the channel's transfer after it, and the change.
 pub struct Outcome {
     pub replies: bool,
     pub bytes: [u8; 8],
-    pub transfer: u8,
+    pub transfer: Transfer,
     pub change: Change,
 }

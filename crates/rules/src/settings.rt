@@ -5,7 +5,7 @@ ghost use Rattle.rules.specs.Settings.{factory, axisFactory, pdoFactory}
 // 6011 to 6014, or 6021 to 6024.
 #[repr(C)]
 pub struct AxisSettings {
-    pub operating: u8,
+    pub operating: u16,
     pub preset: i16,
     pub offset: i16,
     pub differential: i16,
@@ -30,7 +30,7 @@ pub struct Settings {
 }
 
 impl AxisSettings {
-    pub const MOST_OPERATING: u8 = 3;
+    pub const MOST_OPERATING: u16 = 3;
 
     pub fn factory() -> Self
         ensures { λ r. ⌜ r ≡ axisFactory ⌝ }

@@ -11,8 +11,8 @@ pub const AT_START: u8 = 1;
 
 pub const AFTER_SEVEN: u8 = 2;
 
-pub const NONE: u8 = 0;
+pub const NONE: u32 = 0;
 
-pub const GOOD: u8 = 1;
+pub const GOOD: u32 = 1;
 
-pub const FAULTY: u8 = 2;
+pub const FAULTY: u32 = 2;

@@ -2,6 +2,7 @@
 use rules::aborts;
 use rules::objects::Channel;
 use rules::objects::Found;
+use rules::parts::Transfer;
 use rules::requests::Change;
 use rules::requests::Command;
 use rules::requests::Got;
@@ -18,22 +19,25 @@ ghost use Rattle.rules.specs.Requests;
 ghost use Rattle.rules.specs.Service;
 ghost use Rattle.rules.specs.Service.{replied, onRead, onSegment, onCommand};
 ghost use Rattle.view.specs.Seen.{seen, Sound};
+ghost use lib.ListN.{getD};
+ghost use Rattle.rules.specs.State.{place, absent, transferring};
+ghost use Rattle.service.specs.Transfers.{transfersAfter};
 ghost use Rattle.service.specs.Missing.{missingCode};
 ghost use Rattle.service.specs.Wrote;
 
 // A reply with no change.
-fn said(bytes: [u8; 8], transfer: u8) -> Outcome
-    ensures { λ r. ⌜ r ≡ replied bytes transfer Keep ⌝ }
+fn said(bytes: [u8; 8], stage: u8) -> Outcome
+    ensures { λ r. ⌜ r ≡ replied bytes stage Keep ⌝ }
 {
     Outcome {
         replies: true,
         bytes,
-        transfer,
+        transfer: Transfer { stage },
         change: Change::Keep,
     }
 }
 
-fn silent(transfer: u8) -> Outcome
+fn silent(transfer: Transfer) -> Outcome
     ensures { λ r. ⌜ r ≡ Service.silent transfer ⌝ }
 {
     Outcome {
@@ -51,13 +55,13 @@ fn refuse(request: [u8; 8], code: u32) -> Outcome
     said(replies::reply(0x80, request, code), states::ABSENT)
 }
 
-fn segment(toggle: u8, transfer: u8) -> Outcome
+fn segment(toggle: u8, transfer: Transfer) -> Outcome
     ensures { λ r. ⌜ r ≡ onSegment toggle transfer ⌝ }
 {
-    if transfer == states::ABSENT {
+    if transfer.stage == states::ABSENT {
         return said(replies::no_transfer(), states::ABSENT);
     }
-    if transfer == states::AT_START {
+    if transfer.stage == states::AT_START {
         if toggle == 0 {
             return said(replies::first_segment(), states::AFTER_SEVEN);
         }
@@ -101,7 +105,9 @@ fn write_outcome(request: [u8; 8], written: Written) -> Outcome
         Written::Changes(change) => Outcome {
             replies: true,
             bytes: replies::reply(0x60, request, 0),
-            transfer: states::ABSENT,
+            transfer: Transfer {
+                stage: states::ABSENT,
+            },
             change,
         },
         Written::Refused(code) => refuse(request, code),
@@ -149,7 +155,9 @@ fn serve(channel: Channel, request: [u8; 8], v: View) -> Outcome
         Command::Write(given) => write(channel, request, given, v),
         Command::Read => read(request, v),
         Command::Segment(toggle) => segment(toggle, v.transfer),
-        Command::End => silent(states::ABSENT),
+        Command::End => silent(Transfer {
+            stage: states::ABSENT,
+        }),
         Command::Unknown => refuse(request, aborts::UNKNOWN_COMMAND),
     }
 }
@@ -169,5 +177,29 @@ pub fn outcome(channel: Channel, request: [u8; 8], v: View) -> Outcome
         serve(channel, request, v)
     } else {
         silent(v.transfer)
+    }
+}
+
+// A channel's own transfer, of the two.
+pub fn transfer_of(channel: Channel, transfers: [Transfer; 2]) -> Transfer
+    ensures { λ r. ⌜ r ≡ getD transfers (place channel) (transferring absent) ⌝ }
+{
+    match channel {
+        Channel::One => transfers[0],
+        Channel::Two => transfers[1],
+    }
+}
+
+// The two with a channel's own another.
+pub fn transfers_after(
+    channel: Channel,
+    transfer: Transfer,
+    transfers: [Transfer; 2],
+) -> [Transfer; 2]
+    ensures { λ r. ⌜ r ≡ transfersAfter channel transfer transfers ⌝ }
+{
+    match channel {
+        Channel::One => [transfer, transfers[1]],
+        Channel::Two => [transfers[0], transfer],
     }
 }

@@ -3,6 +3,7 @@ use rules::parts::PdoCounts;
 use rules::settings::PdoSettings;
 use rules::states;
 ghost use mathlib.Core.Path.{_≡_};
+ghost use mathlib.Core.Bool.{cond, _&&_};
 ghost use Rattle.rules.specs.Time;
 ghost use Rattle.timers.specs.Runs.{sendingOf, timerRunsOf, syncCountsOf, syncDueOf, syncsAfterOf};
 
@@ -33,7 +34,7 @@ fn sending(network: u8, s: PdoSettings) -> bool
     (network == states::OPERATIONAL) & (s.on == 1)
 }
 
-pub fn timer_runs(network: u8, s: PdoSettings) -> bool
+fn timer_runs(network: u8, s: PdoSettings) -> bool
     ensures { λ r. ⌜ r ≡ timerRunsOf network s ⌝ }
 {
     sending(network, s) & (PdoSettings::LEAST_TIMED <= s.transmission)
@@ -55,7 +56,7 @@ pub fn ticked(network: u8, s: PdoSettings, c: PdoCounts, ms: u16) -> PdoCounts
     }
 }
 
-pub fn sync_counts(network: u8, s: PdoSettings) -> bool
+fn sync_counts(network: u8, s: PdoSettings) -> bool
     ensures { λ r. ⌜ r ≡ syncCountsOf network s ⌝ }
 {
     sending(network, s)
@@ -64,13 +65,13 @@ pub fn sync_counts(network: u8, s: PdoSettings) -> bool
 }
 
 // The SYNC that is counted is the last of its type.
-pub fn sync_due(transmission: u8, syncs: u8) -> bool
+fn sync_due(transmission: u8, syncs: u16) -> bool
     ensures { λ r. ⌜ r ≡ syncDueOf transmission syncs ⌝ }
 {
-    (transmission as u16) <= (syncs as u16) + 1
+    (transmission as u32) <= (syncs as u32) + 1
 }
 
-pub fn syncs_after(transmission: u8, syncs: u8) -> u8
+fn syncs_after(transmission: u8, syncs: u16) -> u16
     ensures { λ r. ⌜ r ≡ syncsAfterOf transmission syncs ⌝ }
 {
     if sync_due(transmission, syncs) {
@@ -78,4 +79,23 @@ pub fn syncs_after(transmission: u8, syncs: u8) -> u8
     } else {
         syncs + 1
     }
+}
+
+// The PDO goes out with this SYNC.
+pub fn sync_sends(network: u8, s: PdoSettings, c: PdoCounts) -> bool
+    ensures { λ r. ⌜ r ≡ (syncCountsOf network s && syncDueOf (s .transmission) (c .syncs)) ⌝ }
+{
+    sync_counts(network, s) & sync_due(s.transmission, c.syncs)
+}
+
+pub fn synced(network: u8, s: PdoSettings, c: PdoCounts) -> PdoCounts
+    ensures { λ r. ⌜ r ≡ cond (syncCountsOf network s) (record { elapsed = c .elapsed; syncs = syncsAfterOf (s .transmission) (c .syncs) }) c ⌝ }
+{
+    if sync_counts(network, s) {
+        return PdoCounts {
+            elapsed: c.elapsed,
+            syncs: syncs_after(s.transmission, c.syncs),
+        };
+    }
+    c
 }

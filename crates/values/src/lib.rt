@@ -1,13 +1,16 @@
 // The number that an object reads as: one that no request changes, or a setting.
 use rules::objects::Axis;
 use rules::objects::Fixed;
+use rules::objects::PdoNumber;
+use rules::objects::PdoSetting;
 use rules::objects::Setting;
+use rules::settings::PdoSettings;
 use view::View;
 ghost use mathlib.Core.Path.{_≡_};
-ghost use Rattle.rules.specs.declared.objects.Setting.the-variants.{On};
+ghost use Rattle.rules.specs.declared.objects.PdoSetting.the-variants.{On};
 ghost use Rattle.rules.specs.Cells.{rest, get};
-ghost use Rattle.rules.specs.Reads.{mapping as mappingOf, fixedValue, settingValue};
-ghost use Rattle.rules.specs.Settings.{setting};
+ghost use Rattle.rules.specs.Reads.{mapping as mappingOf, fixedValue, pdoValue, settingValue, registerIn};
+ghost use Rattle.rules.specs.Settings.{pdoSetting, setting};
 ghost use Rattle.view.specs.Seen.{seen};
 
 fn mapping(axis: Axis) -> u32
@@ -21,7 +24,7 @@ fn mapping(axis: Axis) -> u32
 
 // The objects that no request changes.
 pub fn fixed_value(f: Fixed, v: View) -> u32
-    ensures { λ r. ⌜ r ≡ fixedValue f (get rest (seen v)) ⌝ }
+    ensures { λ r. ⌜ r ≡ fixedValue f (registerIn (seen v)) (get rest (seen v)) ⌝ }
 {
     let node = v.node as u32;
     match f {
@@ -39,7 +42,7 @@ pub fn fixed_value(f: Fixed, v: View) -> u32
         Fixed::ServerCount(_) => 2,
         Fixed::RequestIdentifier(channel) => (frames::requests_at(channel) as u32) + node,
         Fixed::ReplyIdentifier(channel) => (frames::replies_at(channel) as u32) + node,
-        Fixed::PdoCount => 5,
+        Fixed::PdoCount(_) => 5,
         Fixed::MappingCount => 2,
         Fixed::Mapped(axis) => mapping(axis),
         Fixed::Blocks => v.blocks as u32,
@@ -47,13 +50,24 @@ pub fn fixed_value(f: Fixed, v: View) -> u32
 }
 
 // 1800:1 by its on mark.
-fn on_value(on: u8, node: u8) -> u32
-    ensures { λ r. ⌜ r ≡ settingValue On node on ⌝ }
+fn on_value(number: PdoNumber, node: u8, on: u8) -> u32
+    ensures { λ r. ⌜ r ≡ pdoValue number On node on ⌝ }
 {
+    let identifier = (frames::pdo_at(number) as u32) + (node as u32);
     if on == 0 {
-        0xC0000180 + (node as u32)
+        0xC0000000 + identifier
     } else {
-        0x40000180 + (node as u32)
+        0x40000000 + identifier
+    }
+}
+
+fn pdo_value(number: PdoNumber, part: PdoSetting, s: PdoSettings, node: u8) -> u32
+    ensures { λ r. ⌜ r ≡ pdoValue number part node (pdoSetting part s) ⌝ }
+{
+    match part {
+        PdoSetting::On => on_value(number, node, s.on),
+        PdoSetting::Transmission => s.transmission as u32,
+        PdoSetting::Timer => s.timer as u32,
     }
 }
 
@@ -63,9 +77,7 @@ pub fn setting_value(s: Setting, v: View) -> u32
 {
     match s {
         Setting::Heartbeat => v.running.heartbeat as u32,
-        Setting::On => on_value(v.running.pdo.on, v.node),
-        Setting::Transmission => v.running.pdo.transmission as u32,
-        Setting::Timer => v.running.pdo.timer as u32,
+        Setting::Pdo(number, part) => pdo_value(number, part, v.running.pdo, v.node),
         Setting::Resolution => v.running.resolution as u32,
         Setting::Operating(axis) => v.settings(axis).operating as u32,
         Setting::Preset(axis) => numbers::bits(v.settings(axis).preset) as u32,

@@ -1,7 +1,7 @@
 -- A view as a state: what it leaves out is empty, and either channel has its transfer.
 use mathlib.Core.Path.{_≡_}
 use mathlib.Core.Bool.{true}
-use mathlib.Core.List.{[]}
+use mathlib.Core.List.{[], _∷_}
 use Rattle.rules.specs.Ranges.{axisOk}
 use Rattle.rules.specs.Settings.{factory, inTable}
 use Rattle.rules.specs.State.{State, noCounts}
@@ -17,8 +17,7 @@ seen v = record {
   errors = v .errors;
   heartbeat = 0;
   pdo = noCounts;
-  one = v .transfer;
-  two = v .transfer;
+  transfers = v .transfer ∷ v .transfer ∷ [];
   x = v .x;
   y = v .y;
   journal = [];

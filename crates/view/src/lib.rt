@@ -3,11 +3,12 @@ use rules::errors::ErrorList;
 use rules::objects::Axis;
 use rules::parts::Identity;
 use rules::parts::Reading;
+use rules::parts::Transfer;
 use rules::settings::AxisSettings;
 use rules::settings::Settings;
 ghost use mathlib.Core.Path.{_≡_};
-ghost use Rattle.rules.specs.Cells.{rest, get, readingIn};
 ghost use Rattle.rules.specs.Settings.{axisSettings};
+ghost use Rattle.rules.specs.State.{reading};
 ghost use Rattle.view.specs.Seen.{seen};
 
 pub struct View {
@@ -16,17 +17,17 @@ pub struct View {
     pub network: u8,
     pub blocks: u16,
     pub filled: u16,
-    pub spoiled: u8,
+    pub spoiled: u16,
     pub running: Settings,
     pub errors: ErrorList,
-    pub transfer: u8,
+    pub transfer: Transfer,
     pub x: Reading,
     pub y: Reading,
 }
 
 impl View {
     pub fn reading(self, axis: Axis) -> Reading
-        ensures { λ r. ⌜ r ≡ readingIn axis (get rest (seen self)) ⌝ }
+        ensures { λ r. ⌜ r ≡ reading axis (seen self) ⌝ }
     {
         match axis {
             Axis::X => self.x,

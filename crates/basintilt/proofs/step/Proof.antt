@@ -3,7 +3,6 @@ use mathlib.Core.Path.{_≡_, _∙_}
 use mathlib.Core.List.{List}
 use Prim.Native.Nat.{ℕ}
 use borrow.Author.Needs.{needs}
-use borrow.Author.Tests.{le-leb, lt-leb}
 use Rattle.device.specs.declared.Device.{Device}
 use Rattle.device.specs.declared.Stepped.{Stepped}
 use Rattle.device.specs.Promise.{Answered}
@@ -29,12 +28,8 @@ step-spec =
     (tie.spec
     (λ c κs. search needs)
     (λ c κs. search needs)
-    (λ c. search needs)
-    (λ c.
-    let start = c .before .before .before .before .before .before .before .before .before in
-    named (start .args .device) (start .args .journal .now) (start .args .happening) _ _ _ _ (c .before .before .before .before .before .before .before .event-of .ensures) (simp (le-leb _ _ (c .before .before .before .before .if1 .taken))) (c .before .before .event .ensures))
     (λ c κs. search needs)
     (λ c. search needs)
     (λ c.
-    let start = c .before .before .before .before .before .before .before .before .before in
-    named (start .args .device) (start .args .journal .now) (start .args .happening) _ _ _ _ (c .before .before .before .before .before .before .before .event-of .ensures) (simp (lt-leb _ _ (c .before .before .before .before .if1 .left))) (c .before .before .event2 .ensures)))
+    let start = c .before .before .before .before .before .before .before .before in
+    named (start .args .device) (start .args .journal .now) (start .args .happening) _ _ _ _ (c .before .before .before .before .before .before .event-of .ensures) (c .before .before .before .before .bytes-in .ensures) (c .before .before .event .ensures)))

@@ -7,22 +7,20 @@ use denote.Enum.Declared.{tagOf}
 use types.Run.{OneOf, miss}
 use Rattle.rules.proofs.objects.Setting.{the-type}
 use Rattle.rules.specs.declared.objects.Setting.{Setting}
-use Rattle.rules.specs.declared.objects.Setting.the-variants.{Heartbeat, On, Transmission, Timer, Resolution, Operating, Preset, Offset, Differential}
+use Rattle.rules.specs.declared.objects.Setting.the-variants.{Heartbeat, Pdo, Resolution, Operating, Preset, Offset, Differential}
 use Rattle.rules.specs.Objects.{settingRow}
 use Rattle.rows.proofs.setting_size.Statement.{statement}
 use Rattle.rows.proofs.setting_size.Tie as tie
 
 -- the settings that the last arm is left with
 abbrev others : List ℕ
-others = 0 ∷ 3 ∷ 4 ∷ 6 ∷ 7 ∷ 8 ∷ []
+others = 0 ∷ 2 ∷ 4 ∷ 5 ∷ 6 ∷ []
 
 two : (s : Setting) → OneOf others (tagOf the-type s) → settingRow s .size ≡ 2
 two Heartbeat h = refl
-two On h = absurd (miss others 1 tt h)
-two Transmission h = absurd (miss others 2 tt h)
-two Timer h = refl
+two (Pdo n p) h = absurd (miss others 1 tt h)
 two Resolution h = refl
-two (Operating a) h = absurd (miss others 5 tt h)
+two (Operating a) h = absurd (miss others 3 tt h)
 two (Preset a) h = refl
 two (Offset a) h = refl
 two (Differential a) h = refl
@@ -32,9 +30,8 @@ setting-size-spec =
     tie.close
     (tie.spec
     (λ c. search needs)
+    (λ c κs. search needs)
     (λ c. search needs)
     (λ c. search needs)
-    (λ c. simp (c .enum-told .given .1))
-    (λ c. simp (c .enum-told2 .given .1))
-    (λ c. simp (c .enum-told3 .given .1))
-    (λ c. sym (two (c .before .args .s) (c .match .keys4))))
+    (λ c. search needs)
+    (λ c. sym (two (c .before .args .s) (c .match .keys3))))

@@ -10,5 +10,4 @@ communicate-spec =
     (λ c κs. search needs)
     (λ c κs. search needs)
     (λ c κs. search needs)
-    (λ c κs. search needs)
-    (λ c. simp (c .with .ensures, c .before .one .ensures, c .before .before .boot-up .ensures, c .before .before .before .no-counts .ensures)))
+    (λ c. simp (c .reset .ensures, c .before .one .ensures, c .before .before .boot-up .ensures)))

@@ -16,11 +16,17 @@ power-on-spec =
     (tie.spec
     (λ c κs. search needs)
     (λ c κs. search needs)
-    (λ c. simp (c .not-started .ensures, sym (c .before .before .node-ok .ensures) ∙ not-true _ (c .before .if1 .taken)))
+    (λ c κs. search needs)
+    (λ c. simp (c .stay .ensures, sym (c .before .before .node-ok .ensures) ∙ not-true _ (c .before .if1 .taken), c .before .before .before .zero-record .ensures))
     (λ c κs. search needs)
     (λ c κs. search needs)
-    (λ c. simp (c .not-started2 .ensures, sym (c .before .before .length-ok .ensures) ∙ not-true _ (c .before .if2 .taken), sym (c .before .before .before .before .node-ok .ensures) ∙ not-false _ (c .before .before .before .if1 .left)))
-    (λ c. record { fits = omega (arith, to-most 1 47 (c .before .before .before .before .before .args .node) (sym (c .before .before .before .node-ok .ensures) ∙ not-false _ (c .before .before .if1 .left))) })
+    (λ c.
+    let node = c .before .before .before in
+    simp (c .stay2 .ensures, sym (c .before .before .length-ok .ensures) ∙ not-true _ (c .before .if2 .taken), sym (node .before .node-ok .ensures) ∙ not-false _ (node .if1 .left), node .before .before .zero-record .ensures))
+    (λ c. let node = c .before .before in record { fits = omega (arith, to-most 1 47 (node .before .before .before .before .args .node) (sym (node .before .node-ok .ensures) ∙ not-false _ (node .if1 .left))) })
     (λ c κs. sym (c .before .length-ok .ensures) ∙ not-false _ (c .if2 .left))
     (λ c κs. search needs)
-    (λ c. simp (c .start .ensures, c .before .saves-in .ensures, sym (c .before .before .before .length-ok .ensures) ∙ not-false _ (c .before .before .if2 .left), sym (c .before .before .before .before .before .node-ok .ensures) ∙ not-false _ (c .before .before .before .before .if1 .left))))
+    (λ c.
+    let length = c .before .before in
+    let node = length .before .before in
+    simp (c .restart .ensures, c .before .saves-in .ensures, sym (length .before .length-ok .ensures) ∙ not-false _ (length .if2 .left), sym (node .before .node-ok .ensures) ∙ not-false _ (node .if1 .left))))

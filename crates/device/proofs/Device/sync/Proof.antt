@@ -1,6 +1,6 @@
--- `Device::sync` meets its contract by its one test.
+-- `Device::sync` meets its contract: what it sends and the counts then, put together.
 use borrow.Author.Needs.{needs}
-use mathlib.Core.Path.{sym, _∙_}
+use Rattle.rules.proofs.InRange.{parts}
 use Rattle.rules.specs.Time.{onSync}
 use Rattle.device.proofs.Device.sync.Statement.{statement}
 use Rattle.device.proofs.Device.sync.Tie as tie
@@ -11,10 +11,7 @@ sync-spec =
     tie.close
     (tie.spec
     (λ c κs. search needs)
+    (λ c κs. let p = parts _ (c .before .pre) in (p .running, (p .x, p .y)))
     (λ c κs. search needs)
     (λ c κs. search needs)
-    (λ c κs. search needs)
-    (λ c κs. search needs)
-    (λ c. simp (c .with .ensures, c .before .syncs-after .ensures, c .before .before .timed .ensures, c .before .before .before .sync-due .ensures, sym (c .before .before .before .before .before .sync-counts .ensures) ∙ c .before .before .before .before .if1 .taken))
-    (λ c κs. search needs)
-    (λ c. simp (c .stay .ensures, sym (c .before .before .sync-counts .ensures) ∙ c .before .if1 .left)))
+    (λ c. simp (c .with .ensures, c .before .synced .ensures, c .before .before .timed .ensures, c .before .before .before .sync-sends .ensures)))

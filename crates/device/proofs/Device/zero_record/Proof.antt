@@ -1,4 +1,4 @@
--- `Device::zero_record` meets its contract by those that it calls.
+-- `Device::zero_record` meets its contract: zeros throughout.
 use borrow.Author.Needs.{needs}
 use Rattle.device.proofs.Device.zero_record.Statement.{statement}
 use Rattle.device.proofs.Device.zero_record.Tie as tie

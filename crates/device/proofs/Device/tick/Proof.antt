@@ -1,0 +1,21 @@
+-- `Device::tick` meets its contract: what it sends and the counts then, put together.
+use borrow.Author.Needs.{needs}
+use Rattle.rules.proofs.InRange.{parts}
+use Rattle.rules.specs.Time.{onTick}
+use Rattle.device.proofs.Device.tick.Statement.{statement}
+use Rattle.device.proofs.Device.tick.Tie as tie
+
+pub tick-spec : {M : Type 1} → statement M
+unfolding onTick
+tick-spec =
+    tie.close
+    (tie.spec
+    (λ c κs. search needs)
+    (λ c κs. search needs)
+    (λ c κs. let p = parts _ (c .before .before .pre) in (p .running, (p .x, p .y)))
+    (λ c κs. search needs)
+    (λ c κs. search needs)
+    (λ c κs. search needs)
+    (λ c.
+    let timed = c .before .before .before in
+    simp (c .with .ensures, c .before .ticked .ensures, c .before .before .elapsed-after .ensures, timed .timed .ensures, timed .before .tick-sends .ensures, timed .before .before .reaches .ensures)))
