@@ -20,7 +20,7 @@ const WRONG_FRAME: u16 = 2;
 
 impl Device {
     // A received frame, by the rule that names it.
-    fn receive(self, journal: &mut [u8], head: FrameHead, bytes: [u8; 8], length: u8) -> Stepped
+    fn receive(mut self, journal: &mut [u8], head: FrameHead, bytes: [u8; 8], length: u8) -> Stepped
         requires { ⌜ (Ranged self) × (lengthOf (now journal) ≡ 512 * self .saves .blocks) ⌝ }
         ensures { λ r. ⌜ (r ≡ steppedOf (onEvent (Received head) bytes length (seen self (now (journal .entry)))))
             × (now (journal .exit) ≡ onEvent (Received head) bytes length (seen self (now (journal .entry))) .state .journal) ⌝ }

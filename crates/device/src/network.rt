@@ -118,7 +118,7 @@ impl Device {
         }
     }
 
-    pub(crate) fn on_network(self, bytes: [u8; 8], length: u8) -> Stepped
+    pub(crate) fn on_network(mut self, bytes: [u8; 8], length: u8) -> Stepped
         ensures { λ r. ⌜ r ≡ steppedOf (onNetwork bytes length (alone self)) ⌝ }
     {
         let node = bytes[1];
