@@ -30,7 +30,7 @@ use Rattle.rules.specs.Numbers.{between, fits}
 use Rattle.rules.specs.Objects.{sameObject, settingRow}
 use Rattle.rules.specs.Ranges.{inRange, savesOk, errorsOk, elapsedOk, countsOk, transferOk}
 use Rattle.rules.specs.Service.{after, outcome, onSetting, onErrors, onKept, stores, storing, onHeartbeat, onCounts, onTransfer, valued, zeroedAt, sameAxis}
-use Rattle.rules.specs.Settings.{Held, every, inTable, setting, pdoOf, within}
+use Rattle.rules.specs.Settings.{Held, every, inTable, setting, pdoSettingsOf, within}
 use Rattle.rules.specs.State.{State, absent, transferring, place, transferOf}
 use Rattle.rules.proofs.Block.{block-length}
 use Rattle.rules.proofs.InRange.{InRange, parts, together}
@@ -76,7 +76,7 @@ module _ (u : State) (r : InRange u) where
 
   -- the counts: a write that moves a period or a type zeroes what is counted against it
   abbrev pdoAfter : Change → PdoSettings
-  pdoAfter e = pdoOf (λ s. onSetting e s (was s)) First
+  pdoAfter e = pdoSettingsOf (λ s. onSetting e s (was s)) First
 
   abbrev Counts : Change → Type 0
   Counts e =

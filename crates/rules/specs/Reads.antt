@@ -21,10 +21,10 @@ use Rattle.rules.specs.declared.requests.Got.{Got}
 use Rattle.rules.specs.declared.requests.Got.the-variants.{Number, Text, Missing}
 use Rattle.rules.specs.Angle.{angle}
 use Rattle.rules.specs.Cells.{Rest, running, errors, kept, axis, rest, get}
-use Rattle.rules.specs.Errors.{register}
 use Rattle.rules.specs.Frames.{requestsAt, repliesAt}
 use Rattle.rules.specs.Numbers.{unsigned}
 use Rattle.rules.specs.Objects.{fixedRow, settingRow}
+use Rattle.rules.specs.Readings.{registerOf}
 use Rattle.rules.specs.Settings.{Held}
 use Rattle.rules.specs.State.{State, good}
 use Rattle.rules.specs.Writes.{onValue, offValue}
@@ -79,11 +79,8 @@ angleRead x r operating offset differential =
 unfoldable pub entryRead : ℕ → ErrorList → Got
 entryRead n l = cond (leb n (l .length)) (Number 4 (getD (l .codes) (n - 1) 0)) (Missing 0x08000024)
 
-abbrev pub registerIn : State → ℕ
-registerIn u = register (get rest u .spoiled) (get (axis X) u .state) (get (axis Y) u .state)
-
 abbrev pub readOf : Object → State → Got
-readOf (Const f) u = Number (fixedRow f .size) (fixedValue f (registerIn u) (get rest u))
+readOf (Const f) u = Number (fixedRow f .size) (fixedValue f (registerOf u) (get rest u))
 readOf ErrorCount u = Number 1 (get errors u .length)
 readOf (ErrorEntry n) u = entryRead n (get errors u)
 readOf Name u = Text

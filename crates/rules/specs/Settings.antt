@@ -59,13 +59,13 @@ setting (Differential a) t = axisSettings a t .differential
 abbrev pub axisOf : ((s : Setting) → Held s) → Axis → AxisSettings
 axisOf f a = record { operating = f (Operating a); preset = f (Preset a); offset = f (Offset a); differential = f (Differential a) }
 
-abbrev pub pdoOf : ((s : Setting) → Held s) → PdoNumber → PdoSettings
-pdoOf f n = record { on = f (Pdo n On); transmission = f (Pdo n Transmission); timer = f (Pdo n Timer) }
+abbrev pub pdoSettingsOf : ((s : Setting) → Held s) → PdoNumber → PdoSettings
+pdoSettingsOf f n = record { on = f (Pdo n On); transmission = f (Pdo n Transmission); timer = f (Pdo n Timer) }
 
 abbrev pub settingsOf : ((s : Setting) → Held s) → Settings
 settingsOf f = record {
   heartbeat = f Heartbeat;
-  pdo = pdoOf f First;
+  pdo = pdoSettingsOf f First;
   resolution = f Resolution;
   x = axisOf f X;
   y = axisOf f Y;

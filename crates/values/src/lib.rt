@@ -9,7 +9,8 @@ use view::View;
 ghost use mathlib.Core.Path.{_≡_};
 ghost use Rattle.rules.specs.declared.objects.PdoSetting.the-variants.{On};
 ghost use Rattle.rules.specs.Cells.{rest, get};
-ghost use Rattle.rules.specs.Reads.{mapping as mappingOf, fixedValue, pdoValue, settingValue, registerIn};
+ghost use Rattle.rules.specs.Reads.{mapping as mappingOf, fixedValue, pdoValue, settingValue};
+ghost use Rattle.rules.specs.Readings.{registerOf};
 ghost use Rattle.rules.specs.Settings.{pdoSetting, setting};
 ghost use Rattle.view.specs.Seen.{seen};
 
@@ -24,7 +25,7 @@ fn mapping(axis: Axis) -> u32
 
 // The objects that no request changes.
 pub fn fixed_value(f: Fixed, v: View) -> u32
-    ensures { λ r. ⌜ r ≡ fixedValue f (registerIn (seen v)) (get rest (seen v)) ⌝ }
+    ensures { λ r. ⌜ r ≡ fixedValue f (registerOf (seen v)) (get rest (seen v)) ⌝ }
 {
     let node = v.node as u32;
     match f {
