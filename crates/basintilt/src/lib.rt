@@ -88,7 +88,7 @@ pub extern "C" fn basintilt_event(
 pub extern "C" fn basintilt_power_on(node: u32, identity: Identity, journal: &[u8]) -> Stepped
     ensures { λ r. ⌜ PoweredOn node identity (now (journal .entry)) r ⌝ }
 {
-    Device::power_on(node, identity, journal)
+    power_on::power_on(node, identity, journal)
 }
 
 // A lent block and the place it should have: 0 good there, 1 blank, 2 neither.

@@ -59,7 +59,7 @@ fn power_on(node: u8, journal: &mut [u8]) -> Device {
         revision: 0,
         serial: 0,
     };
-    let stepped = Device::power_on(node as u32, identity, journal);
+    let stepped = power_on::power_on(node as u32, identity, journal);
     let answer = stepped.answer;
     print_answer(answer);
     stepped.device
@@ -117,7 +117,7 @@ pub fn follow() {
     let mut space = [255u8; 1024];
     let journal: &mut [u8] = &mut space;
     let mut bench = Bench {
-        device: Device::zero_record(),
+        device: power_on::zero_record(),
         line: Text::empty(),
     };
     let mut turns = u64::MAX;

@@ -1,14 +1,13 @@
 -- The journal beside the record: what an event does to the record does not depend on it, and none but a save or a load touches it.
 use mathlib.Core.Path.{_≡_, refl, sym, _∙_}
-use mathlib.Core.Bool.{Bool, true, false, cond, _&&_, _||_}
+use mathlib.Core.Bool.{Bool, true, false, cond}
 use mathlib.Core.List.{List}
 use Prim.Native.Nat.{ℕ}
 use lib.Dec.{eqb}
 use lib.IntN.{ℤ}
-use lib.ListN.{getD}
 use Rattle.rules.specs.declared.objects.Axis.{Axis}
 use Rattle.rules.specs.declared.objects.Axis.the-variants.{X, Y}
-use Rattle.rules.specs.Network.{start, onCommand, onNetwork}
+use Rattle.rules.specs.Network.{start, onCommand}
 use Rattle.rules.specs.Ranges.{inRange}
 use Rattle.rules.specs.Readings.{onReading}
 use Rattle.rules.specs.Results.{Result}
@@ -49,7 +48,7 @@ module _ (d : Device) (j : List ℕ) where
   reading-beside X m = record { same = refl; kept = refl }
   reading-beside Y m = record { same = refl; kept = refl }
 
-  command-beside : (command : ℕ) → Beside j (onCommand command (seen d j)) (onCommand command (alone d))
+  pub command-beside : (command : ℕ) → Beside j (onCommand command (seen d j)) (onCommand command (alone d))
   unfolding onCommand start
   command-beside command =
       either j (eqb command 0x01) (record { same = refl; kept = refl })
@@ -57,9 +56,3 @@ module _ (d : Device) (j : List ℕ) where
       (either j (eqb command 0x80) (record { same = refl; kept = refl })
       (either j (eqb command 0x81) (record { same = refl; kept = refl })
       (either j (eqb command 0x82) (record { same = refl; kept = refl }) (record { same = refl; kept = refl })))))
-
-  pub network-beside : (bytes : List ℕ) (length : ℕ) → Beside j (onNetwork bytes length (seen d j)) (onNetwork bytes length (alone d))
-  unfolding onNetwork
-  network-beside bytes length =
-      let to = getD bytes 1 0 in
-      either j (eqb length 2 && (eqb to 0 || eqb to (d .node))) (command-beside (getD bytes 0 0)) (record { same = refl; kept = refl })

@@ -3,5 +3,4 @@ pub mod Answers
 pub mod Changed
 pub mod Promise
 pub mod Requested
-pub mod Resets
 pub mod Views

@@ -1,7 +1,6 @@
 // One event: refused by number, or what it does.
 use crate::Device;
 use crate::Stepped;
-use crate::WRONG_LENGTH;
 use requests::Rule;
 use rules::events::Event;
 use rules::events::FrameHead;
@@ -14,9 +13,11 @@ ghost use Rattle.device.specs.Answers.{steppedOf};
 ghost use Rattle.device.specs.Promise.{Answered};
 ghost use Rattle.device.specs.Seen.{alone, seen, Ranged, refusalOf};
 
-const RECORD_OUT_OF_RANGE: u16 = 3;
+const WRONG_LENGTH: u16 = 1;
 
 const WRONG_FRAME: u16 = 2;
+
+const RECORD_OUT_OF_RANGE: u16 = 3;
 
 impl Device {
     // A received frame, by the rule that names it.
@@ -25,11 +26,11 @@ impl Device {
         ensures { λ r. ⌜ (r ≡ steppedOf (onEvent (Received head) bytes length (seen self (now (journal .entry)))))
             × (now (journal .exit) ≡ onEvent (Received head) bytes length (seen self (now (journal .entry))) .state .journal) ⌝ }
     {
-        let rule = requests::rule_of(head, length, self.node);
+        let rule = requests::rule_of(head, bytes, length, self.node);
         match rule {
             Rule::Wrong => self.stay(WRONG_FRAME),
             Rule::Nothing => self.stay(0),
-            Rule::Network => self.on_network(bytes, length),
+            Rule::Network(command) => self.command(command),
             Rule::Sync => self.sync(),
             Rule::Request(channel) => self.serve(journal, channel, bytes),
         }

@@ -1,7 +1,6 @@
 // The device: its record, what moves it, and what it answers.
 mod events;
 mod network;
-mod power_on;
 mod range;
 mod serving;
 mod time;
@@ -18,9 +17,6 @@ ghost use mathlib.Core.Path.{_≡_};
 ghost use Rattle.rules.specs.Results.{refused};
 ghost use Rattle.device.specs.Answers.{steppedOf};
 ghost use Rattle.device.specs.Seen.{alone};
-
-// The refusal that power-on and an event share.
-const WRONG_LENGTH: u16 = 1;
 
 // The device record: plain numbers, so that any record can be given, and refused.
 #[repr(C)]
@@ -46,20 +42,13 @@ pub struct Stepped {
 }
 
 impl Device {
-    // The record as it is now, and the answer.
-    fn with(self, answer: Answer) -> Stepped
-        ensures { λ r. ⌜ r ≡ record { device = self; answer = answer } ⌝ }
-    {
-        Stepped {
-            device: self,
-            answer,
-        }
-    }
-
     // Nothing is sent, and the record stays.
     fn stay(self, refusal: u16) -> Stepped
         ensures { λ r. ⌜ r ≡ steppedOf (refused refusal (alone self)) ⌝ }
     {
-        self.with(Answer::silent(refusal))
+        Stepped {
+            device: self,
+            answer: Answer::silent(refusal),
+        }
     }
 }

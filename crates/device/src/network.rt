@@ -3,9 +3,8 @@ use crate::Device;
 use crate::Stepped;
 use answers::Answer;
 use rules::errors::ErrorList;
-use rules::parts::PdoCounts;
-use rules::parts::Reading;
-use rules::parts::Transfer;
+use rules::parts::Identity;
+use rules::parts::Saves;
 use rules::states;
 ghost use mathlib.Core.Path.{_≡_};
 ghost use mathlib.Core.Bool.{cond};
@@ -13,40 +12,13 @@ ghost use mathlib.Core.List.{[], _∷_};
 ghost use lib.Dec.{eqb};
 ghost use Rattle.rules.specs.Errors.{noErrors, entered};
 ghost use Rattle.rules.specs.Frames.{bootUp};
-ghost use Rattle.rules.specs.Network.{noReading, start, communicating, onCommand, onNetwork};
+ghost use Rattle.rules.specs.Network;
+ghost use Rattle.rules.specs.Network.{communicating, onCommand};
 ghost use Rattle.rules.specs.Results.{accepted};
-ghost use Rattle.rules.specs.State.{noCounts, transferring, absent};
 ghost use Rattle.device.specs.Answers.{steppedOf};
 ghost use Rattle.device.specs.Seen.{alone};
-ghost use Rattle.device.specs.Resets.{reset as resetOf};
 
 const SPOILED: u16 = 0xFF00;
-
-fn no_counts() -> PdoCounts
-    ensures { λ r. ⌜ r ≡ noCounts ⌝ }
-{
-    PdoCounts {
-        elapsed: 0,
-        syncs: 0,
-    }
-}
-
-fn no_reading() -> Reading
-    ensures { λ r. ⌜ r ≡ noReading ⌝ }
-{
-    Reading {
-        state: states::NONE,
-        m: 0,
-    }
-}
-
-fn no_transfer() -> Transfer
-    ensures { λ r. ⌜ r ≡ transferring absent ⌝ }
-{
-    Transfer {
-        stage: states::ABSENT,
-    }
-}
 
 // The list as power-on and 81h leave it.
 fn first_errors(spoiled: u16) -> ErrorList
@@ -60,27 +32,28 @@ fn first_errors(spoiled: u16) -> ErrorList
 }
 
 impl Device {
-    // What every reset does.
-    fn reset(mut self, answer: Answer) -> Stepped
-        ensures { λ r. ⌜ r ≡ record { device = resetOf self; answer = answer } ⌝ }
-    {
-        self.network = states::PRE_OPERATIONAL;
-        self.heartbeat = 0;
-        self.pdo = no_counts();
-        self.transfers = [no_transfer(), no_transfer()];
-        self.with(answer)
-    }
-
     // As power-on and 81h leave it.
-    pub(crate) fn restart(mut self) -> Stepped
-        ensures { λ r. ⌜ r ≡ steppedOf (start (self .node) (self .identity) (self .saves) []) ⌝ }
+    pub fn start(node: u8, identity: Identity, saves: Saves) -> Stepped
+        ensures { λ r. ⌜ r ≡ steppedOf (Network.start node identity saves []) ⌝ }
     {
-        let stored = self.saves.stored;
-        self.running = stored;
-        self.errors = first_errors(self.saves.spoiled);
-        self.x = no_reading();
-        self.y = no_reading();
-        self.reset(answers::booted(self.node, self.saves.spoiled))
+        let stored = saves.stored;
+        let device = Device {
+            identity,
+            x: readings::no_reading(),
+            y: readings::no_reading(),
+            heartbeat: 0,
+            pdo: timers::no_counts(),
+            saves,
+            running: stored,
+            errors: first_errors(saves.spoiled),
+            node,
+            network: states::PRE_OPERATIONAL,
+            transfers: service::no_transfers(),
+        };
+        Stepped {
+            device,
+            answer: answers::booted(node, saves.spoiled),
+        }
     }
 
     // 82h: 1017 and 1800 from the stored settings.
@@ -92,16 +65,24 @@ impl Device {
         running.heartbeat = self.saves.stored.heartbeat;
         running.pdo = pdo;
         self.running = running;
-        self.reset(Answer::one(frames::boot_up(self.node)))
+        self.network = states::PRE_OPERATIONAL;
+        self.heartbeat = 0;
+        self.pdo = timers::no_counts();
+        let transfers = service::no_transfers();
+        self.transfers = transfers;
+        Stepped {
+            device: self,
+            answer: Answer::one(frames::boot_up(self.node)),
+        }
     }
 
-    fn command(mut self, command: u8) -> Stepped
+    pub(crate) fn command(mut self, command: u8) -> Stepped
         ensures { λ r. ⌜ r ≡ steppedOf (onCommand command (alone self)) ⌝ }
     {
         match command {
             0x01 => {
                 self.network = states::OPERATIONAL;
-                self.pdo = no_counts();
+                self.pdo = timers::no_counts();
                 self.stay(0)
             }
             0x02 => {
@@ -112,19 +93,9 @@ impl Device {
                 self.network = states::PRE_OPERATIONAL;
                 self.stay(0)
             }
-            0x81 => self.restart(),
+            0x81 => Device::start(self.node, self.identity, self.saves),
             0x82 => self.communicate(),
             _ => self.stay(0),
         }
-    }
-
-    pub(crate) fn on_network(mut self, bytes: [u8; 8], length: u8) -> Stepped
-        ensures { λ r. ⌜ r ≡ steppedOf (onNetwork bytes length (alone self)) ⌝ }
-    {
-        let node = bytes[1];
-        if (length == 2) & ((node == 0) | (node == self.node)) {
-            return self.command(bytes[0]);
-        }
-        self.stay(0)
     }
 }

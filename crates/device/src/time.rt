@@ -29,7 +29,10 @@ impl Device {
         );
         self.heartbeat = timers::elapsed_after(true, period, self.heartbeat, ms);
         self.pdo = timers::ticked(self.network, self.running.pdo, self.pdo, ms);
-        self.with(answer)
+        Stepped {
+            device: self,
+            answer,
+        }
     }
 
     pub(crate) fn sync(mut self) -> Stepped
@@ -48,7 +51,10 @@ impl Device {
             self.running,
         );
         self.pdo = timers::synced(self.network, self.running.pdo, self.pdo);
-        self.with(answer)
+        Stepped {
+            device: self,
+            answer,
+        }
     }
 
     pub(crate) fn measure(mut self, axis: Axis, m: i32) -> Stepped
@@ -62,6 +68,9 @@ impl Device {
         self.x = readings::x_after(axis, m, self.x);
         self.y = readings::y_after(axis, m, self.y);
         let after = frames::register(spoiled, self.x.state, self.y.state);
-        self.with(readings::alarm(self.node, self.network, fault, code, before, after))
+        Stepped {
+            device: self,
+            answer: readings::alarm(self.node, self.network, fault, code, before, after),
+        }
     }
 }

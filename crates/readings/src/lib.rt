@@ -5,12 +5,23 @@ use rules::objects::Axis;
 use rules::parts::Reading;
 use rules::states;
 ghost use mathlib.Core.Path.{_≡_};
+ghost use Rattle.rules.specs.Network.{noReading};
 ghost use Rattle.rules.specs.Readings;
 ghost use Rattle.rules.specs.Readings.{faultCode};
 ghost use Rattle.answers.specs.Answers.{answering};
 ghost use Rattle.readings.specs.Alarm.{alarmOf};
 ghost use Rattle.readings.specs.Axes.{ofAxis, xAfter, yAfter};
 ghost use Rattle.readings.specs.Listed.{listedOf};
+
+// An axis that has not been read.
+pub fn no_reading() -> Reading
+    ensures { λ r. ⌜ r ≡ noReading ⌝ }
+{
+    Reading {
+        state: states::NONE,
+        m: 0,
+    }
+}
 
 fn measured(m: i32, x: Reading) -> Reading
     ensures { λ r. ⌜ r ≡ Readings.measured m x ⌝ }

@@ -1,13 +1,19 @@
 -- The rule that names a received frame.
-use mathlib.Core.Bool.{cond, _&&_}
+use mathlib.Core.Bool.{cond, _&&_, _||_}
+use mathlib.Core.List.{List}
 use Prim.Native.Nat.{ℕ, _+_}
 use lib.Dec.{eqb}
+use lib.ListN.{getD}
 use Rattle.rules.specs.declared.events.FrameHead.{FrameHead}
 use Rattle.rules.specs.declared.objects.Channel.the-variants.{One, Two}
 use Rattle.rules.specs.Events.{frameOk}
 use Rattle.rules.specs.Frames.{requestsAt}
 use Rattle.requests.specs.declared.Rule.{Rule}
 use Rattle.requests.specs.declared.Rule.the-variants.{Wrong, Nothing, Network, Sync, Request}
+
+-- "NMT: identifier 0, length 2, node 0 or own"
+abbrev pub commandTo : List ℕ → ℕ → ℕ → Rule
+commandTo bytes length node = cond (eqb length 2 && (eqb (getD bytes 1 0) 0 || eqb (getD bytes 1 0) node)) (Network (getD bytes 0 0)) Nothing
 
 -- "requests of 8 bytes only"
 abbrev pub requestTo : ℕ → ℕ → ℕ → Rule
@@ -18,11 +24,11 @@ requestTo identifier length node =
     Nothing))
     Nothing
 
-abbrev pub ruleOf : FrameHead → ℕ → ℕ → Rule
-ruleOf f length node =
+abbrev pub ruleOf : FrameHead → List ℕ → ℕ → ℕ → Rule
+ruleOf f bytes length node =
     cond (frameOk f length)
     (cond (f .remote) Nothing
-    (cond (eqb (f .identifier) 0) Network
+    (cond (eqb (f .identifier) 0) (commandTo bytes length node)
     (cond (eqb (f .identifier) 0x80 && eqb length 0) Sync
     (requestTo (f .identifier) length node))))
     Wrong

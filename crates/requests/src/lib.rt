@@ -6,7 +6,7 @@ ghost use mathlib.Core.Path.{_≡_};
 ghost use Prim.Native.Nat.{_+_, _*_, _%_, _^_};
 ghost use Rattle.rules.specs.Numbers.{fourAt};
 ghost use Rattle.rules.specs.Requests.{commandOf, index as indexOf, subindex as subindexOf};
-ghost use Rattle.requests.specs.Frames.{requestTo, ruleOf};
+ghost use Rattle.requests.specs.Frames.{commandTo, requestTo, ruleOf};
 
 const MOST_IDENTIFIER: u32 = 0x7FF;
 
@@ -85,9 +85,20 @@ pub fn value(size: u8, request: [u8; 8]) -> u32
 pub enum Rule {
     Wrong,
     Nothing,
-    Network,
+    Network(u8),
     Sync,
     Request(Channel),
+}
+
+// An NMT command to this node or to all.
+fn command_to(bytes: [u8; 8], length: u8, node: u8) -> Rule
+    ensures { λ r. ⌜ r ≡ commandTo bytes length node ⌝ }
+{
+    let to = bytes[1];
+    if (length == 2) & ((to == 0) | (to == node)) {
+        return Rule::Network(bytes[0]);
+    }
+    Rule::Nothing
 }
 
 // The channel that an identifier calls, with requests of eight bytes only.
@@ -106,8 +117,8 @@ fn request_to(identifier: u32, length: u8, node: u8) -> Rule
     Rule::Nothing
 }
 
-pub fn rule_of(head: FrameHead, length: u8, node: u8) -> Rule
-    ensures { λ r. ⌜ r ≡ ruleOf head length node ⌝ }
+pub fn rule_of(head: FrameHead, bytes: [u8; 8], length: u8, node: u8) -> Rule
+    ensures { λ r. ⌜ r ≡ ruleOf head bytes length node ⌝ }
 {
     let identifier = head.identifier;
     if !((identifier <= MOST_IDENTIFIER) & (length <= MOST_LENGTH)) {
@@ -117,7 +128,7 @@ pub fn rule_of(head: FrameHead, length: u8, node: u8) -> Rule
         return Rule::Nothing;
     }
     if identifier == 0 {
-        return Rule::Network;
+        return command_to(bytes, length, node);
     }
     if (identifier == SYNC_AT) & (length == 0) {
         return Rule::Sync;

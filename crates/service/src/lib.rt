@@ -20,7 +20,7 @@ ghost use Rattle.rules.specs.Service;
 ghost use Rattle.rules.specs.Service.{replied, onRead, onSegment, onCommand};
 ghost use Rattle.view.specs.Seen.{seen, Sound};
 ghost use lib.ListN.{getD};
-ghost use Rattle.rules.specs.State.{place, absent, transferring};
+ghost use Rattle.rules.specs.State.{place, absent, transferring, noTransfers};
 ghost use Rattle.service.specs.Transfers.{transfersAfter};
 ghost use Rattle.service.specs.Missing.{missingCode};
 ghost use Rattle.service.specs.Wrote;
@@ -178,6 +178,15 @@ pub fn outcome(channel: Channel, request: [u8; 8], v: View) -> Outcome
     } else {
         silent(v.transfer)
     }
+}
+
+pub fn no_transfers() -> [Transfer; 2]
+    ensures { λ r. ⌜ r ≡ noTransfers ⌝ }
+{
+    let none = Transfer {
+        stage: states::ABSENT,
+    };
+    [none, none]
 }
 
 // A channel's own transfer, of the two.

@@ -4,8 +4,18 @@ use rules::settings::PdoSettings;
 use rules::states;
 ghost use mathlib.Core.Path.{_≡_};
 ghost use mathlib.Core.Bool.{cond, _&&_};
+ghost use Rattle.rules.specs.State.{noCounts};
 ghost use Rattle.rules.specs.Time;
 ghost use Rattle.timers.specs.Runs.{sendingOf, timerRunsOf, syncCountsOf, syncDueOf, syncsAfterOf};
+
+pub fn no_counts() -> PdoCounts
+    ensures { λ r. ⌜ r ≡ noCounts ⌝ }
+{
+    PdoCounts {
+        elapsed: 0,
+        syncs: 0,
+    }
+}
 
 // The count reaches its period with a tick of so many milliseconds.
 pub fn reaches(runs: bool, period: u16, elapsed: u16, ms: u16) -> bool

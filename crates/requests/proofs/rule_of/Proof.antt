@@ -11,7 +11,11 @@ rule-of-spec =
     (tie.spec
     (λ c. let args = c .before .args in simp (not-true (frameOk (args .head) (args .length)) (c .if1 .taken)))
     (λ c. let args = c .before .before .args in simp (not-false (frameOk (args .head) (args .length)) (c .before .if1 .left), c .if2 .taken))
-    (λ c. let args = c .before .before .before .args in simp (not-false (frameOk (args .head) (args .length)) (c .before .before .if1 .left), c .before .if2 .left, eq-eqb _ _ (c .if3 .taken)))
+    (λ c κs. search needs)
+    (λ c.
+    let at = c .before in
+    let args = at .before .before .before .args in
+    simp (c .command-to .ensures, not-false (frameOk (args .head) (args .length)) (at .before .before .if1 .left), at .before .if2 .left, eq-eqb _ _ (at .if3 .taken)))
     (λ c.
     let args = c .before .before .before .before .args in
     simp (not-false (frameOk (args .head) (args .length)) (c .before .before .before .if1 .left), c .before .before .if2 .left, ne-eqb _ _ (c .before .if3 .left), c .if4 .taken))

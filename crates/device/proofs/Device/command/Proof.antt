@@ -20,6 +20,6 @@ command-spec =
     (λ c. simp (c .stay .ensures, c .before .no-counts .ensures, c .before .before .match .keys1))
     (λ c. simp (c .stay2 .ensures, c .before .match .keys2))
     (λ c. simp (c .stay3 .ensures, c .before .match .keys3))
-    (λ c. simp (c .restart .ensures, c .before .match .keys4))
+    (λ c. simp (c .start .ensures, c .before .match .keys4))
     (λ c. simp (c .communicate .ensures, c .before .match .keys5))
     (λ c. simp (c .stay4 .ensures, ne-eqb _ 0x01 (c .before .match .rest .0 .0 .0 .0 .1), ne-eqb _ 0x02 (c .before .match .rest .0 .0 .0 .1), ne-eqb _ 0x80 (c .before .match .rest .0 .0 .1), ne-eqb _ 0x81 (c .before .match .rest .0 .1), ne-eqb _ 0x82 (c .before .match .rest .1))))

@@ -10,4 +10,5 @@ communicate-spec =
     (λ c κs. search needs)
     (λ c κs. search needs)
     (λ c κs. search needs)
-    (λ c. simp (c .reset .ensures, c .before .one .ensures, c .before .before .boot-up .ensures)))
+    (λ c κs. search needs)
+    (λ c. simp (c .one .ensures, c .before .boot-up .ensures, c .before .before .no-transfers .ensures, c .before .before .before .no-counts .ensures)))

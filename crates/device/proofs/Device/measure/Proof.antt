@@ -68,13 +68,11 @@ measure-spec =
     (λ c κs. search needs)
     (λ c κs. search needs)
     (λ c κs. search needs)
-    (λ c κs. search needs)
     (λ c.
-    let listed = c .before .before .before .before .before in
+    let listed = c .before .before .before .before in
     let fails = listed .before .before in
     let start = fails .before .before .before in
     let read = toZ-ofZ (start .fits .m) in
-    rw (c .with .ensures)
-    (together _ _ _ _ _ _ _ _ _ _ _ _ (fails .before .of .ensures) (fails .before .before .register .ensures) (simp read at (fails .fails .ensures))
-    (listed .before .fault-code .ensures) (listed .listed .ensures) (simp read at (c .before .before .before .before .x-after .ensures)) (simp read at (c .before .before .before .y-after .ensures))
-    (c .before .before .register2 .ensures) (c .before .alarm .ensures))))
+    together _ _ _ _ _ _ _ _ _ _ _ _ (fails .before .of .ensures) (fails .before .before .register .ensures) (simp read at (fails .fails .ensures))
+    (listed .before .fault-code .ensures) (listed .listed .ensures) (simp read at (c .before .before .before .x-after .ensures)) (simp read at (c .before .before .y-after .ensures))
+    (c .before .register2 .ensures) (c .alarm .ensures)))

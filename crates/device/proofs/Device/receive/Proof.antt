@@ -2,7 +2,7 @@
 use mathlib.Core.Path.{refl}
 use borrow.Author.Needs.{needs}
 use Rattle.requests.specs.declared.Rule.the-variants.{Wrong, Nothing, Network, Sync, Request}
-use Rattle.device.proofs.Beside.{moved, network-beside, sync-beside}
+use Rattle.device.proofs.Beside.{moved, command-beside, sync-beside}
 use Rattle.device.proofs.Named.{as-named}
 use Rattle.device.specs.Seen.{seen}
 use Rattle.device.proofs.Device.receive.Statement.{statement}
@@ -32,18 +32,20 @@ receive-spec =
     let start = ruled .before .before in
     as-named (start .args .bytes) (start .args .length) (seen (start .args .self) (start .args .journal .now)) (start .args .head) _ Nothing _ _ (ruled .rule-of .ensures) (c .before .enum-told2 .given .1) (c .stay2 .ensures, refl))
     (λ c.
-    let ruled = c .before .before .before in
+    let told = c .before .before in
+    let ruled = told .before .before in
     let start = ruled .before .before in
-    let b = network-beside (start .args .self) (start .args .journal .now) (start .args .bytes) (start .args .length) in
-    as-named (start .args .bytes) (start .args .length) (seen (start .args .self) (start .args .journal .now)) (start .args .head) _ Network _ _ (ruled .rule-of .ensures) (c .before .enum-told3 .given .1) (moved b (c .on-network .ensures)))
+    let command = told .rule .given .0 .0 in
+    let b = command-beside (start .args .self) (start .args .journal .now) command in
+    as-named (start .args .bytes) (start .args .length) (seen (start .args .self) (start .args .journal .now)) (start .args .head) _ (Network command) _ _ (ruled .rule-of .ensures) (told .rule .given .1) (moved b (c .command .ensures)))
     (λ c.
     let ruled = c .before .before .before in
     let start = ruled .before .before in
     let b = sync-beside (start .args .self) (start .args .journal .now) in
-    as-named (start .args .bytes) (start .args .length) (seen (start .args .self) (start .args .journal .now)) (start .args .head) _ Sync _ _ (ruled .rule-of .ensures) (c .before .enum-told4 .given .1) (moved b (c .sync .ensures)))
+    as-named (start .args .bytes) (start .args .length) (seen (start .args .self) (start .args .journal .now)) (start .args .head) _ Sync _ _ (ruled .rule-of .ensures) (c .before .enum-told3 .given .1) (moved b (c .sync .ensures)))
     (λ c. search needs)
     (λ c.
     let told = c .before .before .before .before .before in
     let ruled = told .before .before in
     let start = ruled .before .before in
-    as-named (start .args .bytes) (start .args .length) (seen (start .args .self) (start .args .journal .now)) (start .args .head) _ (Request (told .rule .given .0 .0)) _ _ (ruled .rule-of .ensures) (told .rule .given .1) (c .before .before .serve .ensures)))
+    as-named (start .args .bytes) (start .args .length) (seen (start .args .self) (start .args .journal .now)) (start .args .head) _ (Request (told .rule2 .given .0 .0)) _ _ (ruled .rule-of .ensures) (told .rule2 .given .1) (c .before .before .serve .ensures)))

@@ -4,9 +4,4 @@ use Rattle.device.proofs.Device.stay.Statement.{statement}
 use Rattle.device.proofs.Device.stay.Tie as tie
 
 pub stay-spec : {M : Type 1} → statement M
-stay-spec =
-    tie.close
-    (tie.spec
-    (λ c κs. search needs)
-    (λ c κs. search needs)
-    (λ c. simp (c .with .ensures, c .before .silent .ensures)))
+stay-spec = tie.close (tie.spec (λ c κs. search needs) (λ c. simp (c .silent .ensures)))

@@ -13,5 +13,4 @@ sync-spec =
     (λ c κs. search needs)
     (λ c κs. let p = parts _ (c .before .pre) in (p .running, (p .x, p .y)))
     (λ c κs. search needs)
-    (λ c κs. search needs)
-    (λ c. simp (c .with .ensures, c .before .synced .ensures, c .before .before .timed .ensures, c .before .before .before .sync-sends .ensures)))
+    (λ c. simp (c .synced .ensures, c .before .timed .ensures, c .before .before .sync-sends .ensures)))

@@ -15,7 +15,6 @@ tick-spec =
     (λ c κs. let p = parts _ (c .before .before .pre) in (p .running, (p .x, p .y)))
     (λ c κs. search needs)
     (λ c κs. search needs)
-    (λ c κs. search needs)
     (λ c.
-    let timed = c .before .before .before in
-    simp (c .with .ensures, c .before .ticked .ensures, c .before .before .elapsed-after .ensures, timed .timed .ensures, timed .before .tick-sends .ensures, timed .before .before .reaches .ensures)))
+    let timed = c .before .before in
+    simp (c .ticked .ensures, c .before .elapsed-after .ensures, timed .timed .ensures, timed .before .tick-sends .ensures, timed .before .before .reaches .ensures)))
