@@ -11,13 +11,9 @@ ghost use Rattle.rules.specs.declared.events.Event.the-variants.{Received};
 ghost use Rattle.rules.specs.Events.{onEvent};
 ghost use Rattle.device.specs.Answers.{steppedOf};
 ghost use Rattle.device.specs.Promise.{Answered};
-ghost use Rattle.device.specs.Seen.{alone, seen, Ranged, refusalOf};
-
-const WRONG_LENGTH: u16 = 1;
+ghost use Rattle.device.specs.Seen.{seen, Ranged};
 
 const WRONG_FRAME: u16 = 2;
-
-const RECORD_OUT_OF_RANGE: u16 = 3;
 
 impl Device {
     // A received frame, by the rule that names it.
@@ -34,19 +30,6 @@ impl Device {
             Rule::Sync => self.sync(),
             Rule::Request(channel) => self.serve(journal, channel, bytes),
         }
-    }
-
-    // The number of the refusal that the record or the length of its journal brings; 0 where it is none.
-    fn refusal(self, length: usize) -> u16
-        ensures { λ r. ⌜ r ≡ refusalOf length (alone self) ⌝ }
-    {
-        if !self.in_range() {
-            return RECORD_OUT_OF_RANGE;
-        }
-        if length != 512 * (self.saves.blocks as usize) {
-            return WRONG_LENGTH;
-        }
-        0
     }
 
     // The record goes in by value and comes back, with the frames; the lent journal is written by a save or a load alone.
