@@ -17,27 +17,30 @@ out n u f t = rw (never (inRange u) (λ e. no (sym f ∙ t (parts u e))))
 
 -- behind the last test of a part
 in-range : (c : tie.Else7) → inRange (alone (c .before .before .before .before .before .before .before .before .before .before .before .before .before .before .before .before .before .before .args .self)) ≡ true
-in-range counts =
-    let nodes = counts .before .before .before in
+in-range c =
+    let nodes = c .before .before .before in
     let errors = nodes .before .before .before in
     let axes = errors .before .before in
     let table = axes .before .before .before in
     let transfers = table .before .before in
     let saves = transfers .before .before .before in
-    let node-network = not-false _ (nodes .if6 .left) in
-    let x-y = not-false _ (axes .if4 .left) in
-    let elapsed-syncs = not-false _ (counts .if7 .left) in
+    let own = nodes .before .before .own-node-ok in
+    let network = nodes .before .network-ok in
+    let x = axes .before .before .axis-ok in
+    let y = axes .before .axis-ok2 in
+    let elapsed = c .before .before .elapsed-ok in
+    let counts = c .before .counts-ok in
     together _ (record {
-      node = sym (nodes .before .before .own-node-ok .ensures) ∙ left (nodes .before .before .own-node-ok .result) (nodes .before .network-ok .result) node-network;
-      network = sym (nodes .before .network-ok .ensures) ∙ right (nodes .before .before .own-node-ok .result) (nodes .before .network-ok .result) node-network;
+      node = sym (own .ensures) ∙ left (own .result) (network .result) (not-false _ (nodes .if6 .left));
+      network = sym (network .ensures) ∙ right (own .result) (network .result) (not-false _ (nodes .if6 .left));
       saves = sym (saves .before .saves-ok .ensures) ∙ not-false _ (saves .if1 .left);
       running = sym (table .before .in-table .ensures) ∙ not-false _ (table .if3 .left);
       errors = sym (errors .before .errors-ok .ensures) ∙ not-false _ (errors .if5 .left);
-      heartbeat = sym (counts .before .before .elapsed-ok .ensures) ∙ left (counts .before .before .elapsed-ok .result) (counts .before .counts-ok .result) elapsed-syncs;
-      pdo = sym (counts .before .counts-ok .ensures) ∙ right (counts .before .before .elapsed-ok .result) (counts .before .counts-ok .result) elapsed-syncs;
+      heartbeat = sym (elapsed .ensures) ∙ left (elapsed .result) (counts .result) (not-false _ (c .if7 .left));
+      pdo = sym (counts .ensures) ∙ right (elapsed .result) (counts .result) (not-false _ (c .if7 .left));
       transfers = sym (transfers .before .transfers-ok .ensures) ∙ not-false _ (transfers .if2 .left);
-      x = sym (axes .before .before .axis-ok .ensures) ∙ left (axes .before .before .axis-ok .result) (axes .before .axis-ok2 .result) x-y;
-      y = sym (axes .before .axis-ok2 .ensures) ∙ right (axes .before .before .axis-ok .result) (axes .before .axis-ok2 .result) x-y;
+      x = sym (x .ensures) ∙ left (x .result) (y .result) (not-false _ (axes .if4 .left));
+      y = sym (y .ensures) ∙ right (x .result) (y .result) (not-false _ (axes .if4 .left));
     })
 
 pub refusal-spec : {M : Type 1} → statement M
