@@ -43,7 +43,7 @@ def declares(file, name):
 
 def matches(pattern, file):
     for found in re.findall(pattern.format(ANY_NAME), code(file), re.MULTILINE):
-        yield from [found] if isinstance(found, str) else found
+        yield from filter(None, [found] if isinstance(found, str) else found)
 
 
 @functools.cache

@@ -5,6 +5,7 @@ import re
 UNSIGNED = {0x0005: 1, 0x0006: 2, 0x0007: 4}
 SIGNED = {0x0003: 2}
 STRING = 0x0009
+NUMBER = re.compile(r"-?(?:0x[0-9A-Fa-f]+|0|[1-9][0-9]*)")
 SECTION = re.compile(r"([0-9A-F]{4})(?:sub([0-9A-F]{1,2}))?")
 
 
@@ -23,7 +24,7 @@ class Entry:
     def said(self, key, node=0):
         """The number that a key has, or None where it has none."""
         text = self.section.get(key, "")
-        return number(text, node) if text else None
+        return at_node(number(text), node) if text else None
 
     def text(self):
         return self.section["DefaultValue"]
@@ -36,15 +37,28 @@ class Entry:
         """The accepted values as (first, last) ranges: the comment line Values, else the limits, else the whole type."""
         values = self.section.get(";Values")
         if values:
-            return [(number(r[0], node), number(r[-1], node)) for r in (v.split("..") for v in values.split(", "))]
+            return [(at_node(first, node), at_node(last, node)) for first, last in ranges(values)]
         low, high = self.type_ends()
         given_low, given_high = self.said("LowLimit", node), self.said("HighLimit", node)
         return [(low if given_low is None else given_low, high if given_high is None else given_high)]
 
 
-def number(text, node):
+def number(text):
+    """A number of the sheet, and whether the node is added."""
     formula = text.removeprefix("$NODEID+")
-    return int(formula, 0) + (node if formula != text else 0)
+    if not NUMBER.fullmatch(formula):
+        raise ValueError(f"{text} is no number")
+    return int(formula, 0), formula != text
+
+
+def ranges(text):
+    """The values 0, 25..65535 as pairs of ends."""
+    return [(number(part[0]), number(part[-1])) for part in (values.split("..") for values in text.split(", "))]
+
+
+def at_node(said, node):
+    value, with_node = said
+    return value + node if with_node else value
 
 
 def parsed(text):

@@ -4,11 +4,12 @@ import functools
 import pathlib
 import re
 
+from sheet import number, ranges
+
 HERE = pathlib.Path(__file__).resolve().parent
 TYPES = {"u8": "0x0005", "u16": "0x0006", "u32": "0x0007", "i16": "0x0003", "string": "0x0009"}
 VAR, GROUPS = "0x7", {"array": "0x8", "record": "0x9"}
 LISTS = ("MandatoryObjects", "OptionalObjects", "ManufacturerObjects")
-NUMBER = re.compile(r"-?(?:0x[0-9A-Fa-f]+|0|[1-9][0-9]*)")
 EXPLAINED = ("Values: ", "WrongValue: ", "ReadAtFirst, WriteAtFirst: ", "ObjFlags 0x1: ")
 
 
@@ -20,19 +21,6 @@ def rows(file):
 def in_sheet_words(text):
     """Numbers as document 01 writes them, 80h+node, in the words of the sheet."""
     return re.sub(r"\b([0-9A-F]+)h", r"0x\1", re.sub(r"(\w+)\+node", r"$NODEID+\1", text))
-
-
-def number(text):
-    """A number of the sheet, and whether the node is added."""
-    formula = text.removeprefix("$NODEID+")
-    if not NUMBER.fullmatch(formula):
-        raise ValueError(f"{text} is no number")
-    return int(formula, 0), formula != text
-
-
-def ranges(text):
-    """The values 0, 25..65535 as pairs of ends."""
-    return [(number(part[0]), number(part[-1])) for part in (values.split("..") for values in text.split(", "))]
 
 
 def limits(accepted, default):

@@ -91,11 +91,13 @@ static uint32_t abort_of(int channel, uint8_t first, uint16_t index, uint8_t sub
     return low_first(answer.frames[0].bytes + 4, 4);
 }
 
-/* A write with the object's own length: accepted at the end of its range, refused beyond it. */
+/* A write with the object's own length: accepted at the end of its range and read back whole, refused beyond it. */
 static void ends_at(uint16_t index, uint8_t subindex, uint32_t end, uint32_t beyond)
 {
     for (int channel = 0; channel < BASINTILT_CHANNELS; channel++) {
         IS(request(channel, 0x22, index, subindex, end), WRITTEN);
+        request(channel, READ, index, subindex, 0);
+        IS(low_first(answer.frames[0].bytes + 4, 4), end);
         IS(abort_of(channel, 0x22, index, subindex, beyond), BASINTILT_ABORT_VALUE);
     }
 }
@@ -139,7 +141,7 @@ static void refusals_of_events(void)
 static void states_of_the_network(void)
 {
     static const uint8_t commands[] = {0x01, 0x02, 0x80};
-    static const uint8_t states[] = {BASINTILT_OPERATIONAL, BASINTILT_STOPPED, BASINTILT_PRE_OPERATIONAL};
+    static const int states[] = {BASINTILT_OPERATIONAL, BASINTILT_STOPPED, BASINTILT_PRE_OPERATIONAL};
     start_blank();
     IS(answer.frames[0].identifier, BASINTILT_HEARTBEAT_AT + NODE);
     IS(device.network, BASINTILT_PRE_OPERATIONAL);

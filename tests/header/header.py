@@ -59,7 +59,8 @@ def library_says(folder):
     (ROOT / "target").mkdir(exist_ok=True)
     with tempfile.TemporaryDirectory(dir=ROOT / "target") as place:
         program = pathlib.Path("target") / pathlib.Path(place).name / "behaviour"
-        built = subprocess.run([ROOT / "tests" / "link", program, BEHAVIOUR, f"-I{folder}", "-O0"], capture_output=True, text=True, check=False)
+        command = [ROOT / "tests" / "link", program, BEHAVIOUR, f"-I{folder}", "-O0", "-Werror"]
+        built = subprocess.run(command, capture_output=True, text=True, check=False)
         if built.returncode:
             return False, built.stderr
         run = subprocess.run([ROOT / program], capture_output=True, text=True, check=False)
