@@ -5,6 +5,8 @@ int printf(const char *, ...);
 void *memset(void *, int, size_t);
 int memcmp(const void *, const void *, size_t);
 
+enum { NODE = 1, FIRST = BASINTILT_REQUEST_ONE_AT + NODE, SECOND = BASINTILT_REQUEST_TWO_AT + NODE };
+
 static uint8_t journal[2 * BASINTILT_BLOCK_BYTES];
 static struct basintilt_device device;
 static int failures;
@@ -45,6 +47,13 @@ static void happens(struct basintilt_happening happening)
     show(basintilt_event(&device, journal, sizeof journal, happening));
 }
 
+static void asks(uint32_t identifier, uint8_t first, uint16_t index, uint8_t subindex, uint32_t value)
+{
+    uint8_t low[4] = {(uint8_t)value, (uint8_t)(value >> 8), (uint8_t)(value >> 16), value >> 24};
+    happens((struct basintilt_happening){.kind = BASINTILT_FRAME, .identifier = identifier, .length = 8,
+                                         .bytes = {first, (uint8_t)index, index >> 8, subindex, low[0], low[1], low[2], low[3]}});
+}
+
 static void is_refused(void)
 {
     struct basintilt_device lent = device;
@@ -55,30 +64,30 @@ static void is_refused(void)
 int main(void)
 {
     memset(journal, 0xFF, sizeof journal);
-    check(basintilt_block(journal, 512, 1) == BASINTILT_BLANK, "a fresh block is blank");
-    struct basintilt_stepped stepped = basintilt_power_on(1, (struct basintilt_identity){1, 2, 3, 4}, journal, sizeof journal);
+    check(basintilt_block(journal, BASINTILT_BLOCK_BYTES, 1) == BASINTILT_BLANK, "a fresh block is blank");
+    struct basintilt_stepped stepped = basintilt_power_on(NODE, (struct basintilt_identity){1, 2, 3, 4}, journal, sizeof journal);
     device = stepped.device;
     show(stepped.answer);
-    happens((struct basintilt_happening){.kind = BASINTILT_FRAME, .identifier = 0, .length = 2, .bytes = {0x01, 0x01}});
+    happens((struct basintilt_happening){.kind = BASINTILT_FRAME, .identifier = BASINTILT_NMT_AT, .length = 2, .bytes = {0x01, NODE}});
     happens((struct basintilt_happening){.kind = BASINTILT_READING_X, .m = 12345});
-    happens((struct basintilt_happening){.identifier = 0x601, .length = 8, .bytes = {0x40, 0x10, 0x60}});
-    happens((struct basintilt_happening){.identifier = 0x681, .length = 8, .bytes = {0x40, 0x10, 0x60}});
-    happens((struct basintilt_happening){.identifier = 0x681, .length = 8, .bytes = {0x23, 0x10, 0x10, 1, 0x73, 0x61, 0x76, 0x65}});
+    asks(FIRST, 0x40, 0x6010, 0, 0);
+    asks(SECOND, 0x40, 0x6010, 0, 0);
+    asks(SECOND, 0x23, 0x1010, 1, BASINTILT_SAVE);
     happens((struct basintilt_happening){.kind = BASINTILT_TICK, .ms = 100});
-    happens((struct basintilt_happening){.identifier = 0x601, .length = 8, .bytes = {0x2F, 0x00, 0x60, 0x00, 0x03}});
-    check(basintilt_block(journal, 512, 1) == BASINTILT_GOOD, "the saved block is good at its place");
-    check(basintilt_block(journal, 512, 2) == BASINTILT_NEITHER, "and at no other");
-    check(basintilt_block(journal + 512, 512, 2) == BASINTILT_BLANK, "the next block is blank still");
+    asks(FIRST, 0x2F, 0x6000, 0, 3);
+    check(basintilt_block(journal, BASINTILT_BLOCK_BYTES, 1) == BASINTILT_GOOD, "the saved block is good at its place");
+    check(basintilt_block(journal, BASINTILT_BLOCK_BYTES, 2) == BASINTILT_NEITHER, "and at no other");
+    check(basintilt_block(journal + BASINTILT_BLOCK_BYTES, BASINTILT_BLOCK_BYTES, 2) == BASINTILT_BLANK, "the next block is blank still");
     check(device.saves.filled == 1 && device.identity.serial == 4 && device.x.m == 12345, "the record is updated");
     happens((struct basintilt_happening){.kind = 99, .identifier = 0xFFFF, .length = 200});
     device.x.state += 0x100; /* the low byte alone would be in range */
     is_refused();
     device.x.state -= 0x100;
-    device.node = 48;
+    device.node = BASINTILT_MOST_NODE + 1;
     is_refused();
-    stepped = basintilt_power_on(48, (struct basintilt_identity){1, 2, 3, 4}, journal, sizeof journal);
+    stepped = basintilt_power_on(BASINTILT_MOST_NODE + 1, (struct basintilt_identity){1, 2, 3, 4}, journal, sizeof journal);
     show(stepped.answer);
     check(all_zero(&stepped.device, &stepped.device + 1), "a refused power-on gives the all-zero record");
     printf("%d failures\n", failures);
-    return failures;
+    return failures != 0;
 }
