@@ -13,13 +13,12 @@ use Rattle.rules.specs.declared.objects.Setting.{Setting}
 use Rattle.rules.specs.declared.objects.Setting.the-variants.{Heartbeat, Pdo, Resolution, Operating, Preset, Offset, Differential}
 use Rattle.rules.specs.declared.requests.Command.{Command}
 use Rattle.rules.specs.declared.requests.Command.the-variants.{Write, Read, Segment, End, Unknown}
-use Rattle.rules.specs.Cells.{transfer, get}
 use Rattle.rules.specs.Objects.{objectAt}
 use Rattle.rules.specs.Reads.{readOf}
 use Rattle.rules.specs.Requests.{command, index, subindex, valueFor}
 use Rattle.rules.specs.Service.{onCommand, outcome}
-use Rattle.rules.specs.State.{State}
-use Rattle.rules.specs.Writes.{settingCheck, stateCheck, settingChange, change}
+use Rattle.rules.specs.State.{State, transferOf}
+use Rattle.rules.specs.Writes.{settingWrite, write}
 use Rattle.view.specs.Seen as view
 use Rattle.device.specs.declared.Device.{Device}
 use Rattle.device.specs.Seen.{seen}
@@ -45,36 +44,34 @@ module _ (c : Channel) (d : Device) (j : List ℕ) where
   read-alike (Angle Y) = refl
   read-alike (Of s) = refl
 
-  setting-alike : (s : Setting) (v : ℕ) → (settingCheck s v looked ≡ settingCheck s v whole) × (settingChange s v looked ≡ settingChange s v whole)
-  setting-alike Heartbeat v = (refl, refl)
-  setting-alike (Pdo n p) v = (refl, refl)
-  setting-alike Resolution v = (refl, refl)
-  setting-alike (Operating a) v = (refl, refl)
-  setting-alike (Preset X) v = (refl, refl)
-  setting-alike (Preset Y) v = (refl, refl)
-  setting-alike (Offset a) v = (refl, refl)
-  setting-alike (Differential a) v = (refl, refl)
+  setting-alike : (s : Setting) (v : ℕ) → settingWrite s v looked ≡ settingWrite s v whole
+  setting-alike Heartbeat v = refl
+  setting-alike (Pdo n p) v = refl
+  setting-alike Resolution v = refl
+  setting-alike (Operating a) v = refl
+  setting-alike (Preset X) v = refl
+  setting-alike (Preset Y) v = refl
+  setting-alike (Offset a) v = refl
+  setting-alike (Differential a) v = refl
 
-  write-alike : (o : Object) (v : ℕ) → (stateCheck o v looked ≡ stateCheck o v whole) × (change c o v looked ≡ change c o v whole)
-  write-alike (Const f) v = (refl, refl)
-  write-alike ErrorCount v = (refl, refl)
-  write-alike (ErrorEntry n) v = (refl, refl)
-  write-alike Name v = (refl, refl)
-  write-alike Save v = (refl, refl)
-  write-alike Load v = (refl, refl)
-  write-alike Filled v = (refl, refl)
-  write-alike (Angle a) v = (refl, refl)
+  write-alike : (o : Object) (v : ℕ) → write o v looked ≡ write o v whole
+  write-alike (Const f) v = refl
+  write-alike ErrorCount v = refl
+  write-alike (ErrorEntry n) v = refl
+  write-alike Name v = refl
+  write-alike Save v = refl
+  write-alike Load v = refl
+  write-alike Filled v = refl
+  write-alike (Angle a) v = refl
   write-alike (Of s) v = setting-alike s v
 
-transfer-alike : (c : Channel) (d : Device) (j : List ℕ) → get (transfer c) (view.seen (viewOf c d)) ≡ get (transfer c) (seen d j)
+transfer-alike : (c : Channel) (d : Device) (j : List ℕ) → transferOf c (view.seen (viewOf c d)) ≡ transferOf c (seen d j)
 transfer-alike One d j = refl
 transfer-alike Two d j = refl
 
 module _ (c : Channel) (request : List ℕ) (d : Device) (j : List ℕ) where
   command-alike : (k : Command) (f : Found) → onCommand c request k f (view.seen (viewOf c d)) ≡ onCommand c request k f (seen d j)
-  command-alike (Write given) (At o) =
-      let e = write-alike c d j o (valueFor o request) in
-      rw (e .0, e .1)
+  command-alike (Write given) (At o) = rw (write-alike c d j o (valueFor o request))
   command-alike (Write given) NoObject = refl
   command-alike (Write given) NoSubindex = refl
   command-alike Read (At o) = rw (read-alike c d j o)

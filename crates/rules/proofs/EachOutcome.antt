@@ -18,13 +18,12 @@ use Rattle.rules.specs.declared.requests.Got.the-variants.{Number, Text,
 use Rattle.rules.specs.declared.requests.Outcome.{Outcome}
 use Rattle.rules.specs.declared.requests.Verdict.{Verdict}
 use Rattle.rules.specs.declared.requests.Verdict.the-variants.{Pass, Abort}
-use Rattle.rules.specs.Cells.{transfer, get}
 use Rattle.rules.specs.Objects.{objectAt}
 use Rattle.rules.specs.Reads.{readOf}
 use Rattle.rules.specs.Replies.{written, readNumber, readText, firstSegment, lastSegment, wrongToggle, noTransfer}
 use Rattle.rules.specs.Requests.{command, index, subindex, valueFor}
 use Rattle.rules.specs.Service.{replied, silent, refuse, onWrite, onRead, onSegment, onCommand, outcome, served}
-use Rattle.rules.specs.State.{State, absent, atStart, afterSeven, transferring}
+use Rattle.rules.specs.State.{State, absent, atStart, afterSeven, transferring, transferOf}
 use Rattle.rules.specs.Writes.{change, writeCheck}
 
 module _ (c : Channel) (request : List ℕ) (u : State) (P : Outcome → Type 0) where
@@ -40,7 +39,7 @@ module _ (c : Channel) (request : List ℕ) (u : State) (P : Outcome → Type 0)
     pub toggle : P (replied wrongToggle absent Keep)
     pub missing : P (replied noTransfer absent Keep)
     pub ended : P (silent (transferring absent))
-    pub unserved : P (silent (get (transfer c) u))
+    pub unserved : P (silent (transferOf c u))
 
   module _ (each : Each) where
     writes : (v : Verdict) (e : Change) → (v ≡ Pass → P (replied (written request) absent e)) → P (onWrite request v e)
@@ -65,7 +64,7 @@ module _ (c : Channel) (request : List ℕ) (u : State) (P : Outcome → Type 0)
     commands Read (At o) p q = reads (readOf o u)
     commands Read NoObject p q = each .aborted 0x06020000
     commands Read NoSubindex p q = each .aborted 0x06090011
-    commands (Segment toggle) f p q = segments toggle (get (transfer c) u)
+    commands (Segment toggle) f p q = segments toggle (transferOf c u)
     commands End f p q = each .ended
     commands Unknown f p q = each .aborted 0x05040001
 

@@ -26,14 +26,13 @@ use Rattle.rules.specs.declared.requests.Zeroed.{Zeroed}
 use Rattle.rules.specs.declared.requests.Zeroed.the-variants.{To, Refused}
 use Rattle.rules.specs.Angle.{offset, zeroed}
 use Rattle.rules.specs.Block.{save, load}
-use Rattle.rules.specs.Cells.{running, axis, transfer, get}
 use Rattle.rules.specs.Numbers.{between, fourAt, fits, signed}
 use Rattle.rules.specs.Objects.{rowOf, settingRow}
 use Rattle.rules.specs.Requests.{valueFor}
 use Rattle.rules.specs.Service.{outcome, valued}
-use Rattle.rules.specs.Settings.{within}
-use Rattle.rules.specs.State.{State, good}
-use Rattle.rules.specs.Writes.{_then_, unless, roomCheck, accepts, zeroedBy, zeroChange, settingChange, change, stateCheck, writeCheck, lengthCheck, valueCheck}
+use Rattle.rules.specs.Settings.{within, pdoWithin, axisSettings}
+use Rattle.rules.specs.State.{State, good, reading, transferOf}
+use Rattle.rules.specs.Writes.{_then_, unless, lengthCheck, roomCheck, zeroedBy, zeroChange, settingWrite, write, writeCheck, change}
 use Rattle.rules.specs.Ranges.{transferOk}
 use Rattle.rules.proofs.EachOutcome.{each-outcome}
 use Rattle.rules.proofs.Ranges.{signed-fits}
@@ -64,16 +63,16 @@ value-fits : (o : Object) (request : List ℕ) → valueFor o request < 256 ^ ro
 value-fits o request = mod-lt (fourAt request 4) (one-le-pow (rowOf o .size) 256 (omega arith))
 
 -- an accepted value is in its setting's range
-accepted-in : (node : ℕ) (s : Setting) (v : ℕ) → v < 256 ^ settingRow s .size → accepts node s v ≡ true → within s (valued s v) ≡ true
-accepted-in node Heartbeat v h e = e
-accepted-in node (Pdo n On) v h e = cond-both (λ (n : ℕ). leb n 1 ≡ true) (ltb v 0x80000000) refl refl
-accepted-in node (Pdo n Transmission) v h e = e
-accepted-in node (Pdo n Timer) v h e = e
-accepted-in node Resolution v h e = e
-accepted-in node (Operating a) v h e = e
-accepted-in node (Preset a) v h e = signed-fits v h
-accepted-in node (Offset a) v h e = signed-fits v h
-accepted-in node (Differential a) v h e = signed-fits v h
+accepted-in : (u : State) (s : Setting) (v : ℕ) → v < 256 ^ settingRow s .size → settingWrite s v u .value ≡ Pass → within s (valued s v) ≡ true
+accepted-in u Heartbeat v h e = passes (within Heartbeat v) 0x06090030 e
+accepted-in u (Pdo n On) v h e = cond-both (λ (n : ℕ). leb n 1 ≡ true) (ltb v 0x80000000) refl refl
+accepted-in u (Pdo n Transmission) v h e = passes (pdoWithin Transmission v) 0x06090030 e
+accepted-in u (Pdo n Timer) v h e = passes (pdoWithin Timer v) 0x06090030 e
+accepted-in u Resolution v h e = passes (within Resolution v) 0x06090030 e
+accepted-in u (Operating a) v h e = passes (within (Operating a) v) 0x06090030 e
+accepted-in u (Preset a) v h e = signed-fits v h
+accepted-in u (Offset a) v h e = signed-fits v h
+accepted-in u (Differential a) v h e = signed-fits v h
 
 -- an offset that is stored fits
 abbrev ZeroFits : Zeroed → Type 0
@@ -104,19 +103,19 @@ module _ (u : State) where
   zeroes a v (To offset) h e = (signed-fits v h, e)
   zeroes a v (Refused code) h e = tt
 
-  sets : (s : Setting) (v : ℕ) → v < 256 ^ settingRow s .size → accepts (u .node) s v ≡ true → Allowed u (settingChange s v u)
-  sets Heartbeat v h e = (h, accepted-in (u .node) Heartbeat v h e)
-  sets (Pdo n p) v h e = (h, accepted-in (u .node) (Pdo n p) v h e)
-  sets Resolution v h e = (h, accepted-in (u .node) Resolution v h e)
-  sets (Operating a) v h e = (h, accepted-in (u .node) (Operating a) v h e)
-  sets (Preset a) v h e =
-      zeroes a v (zeroedBy a v u) h
-      (zero-fits (get (axis a) u) (get (running Resolution) u) (get (running (Operating a)) u) (get (running (Differential a)) u) (signed 16 v))
-  sets (Offset a) v h e = tt
-  sets (Differential a) v h e = (h, accepted-in (u .node) (Differential a) v h e)
+  sets : (c : Channel) (s : Setting) (v : ℕ) → v < 256 ^ settingRow s .size → settingWrite s v u .value ≡ Pass → Allowed u (settingWrite s v u .change c)
+  sets c Heartbeat v h e = (h, accepted-in u Heartbeat v h e)
+  sets c (Pdo n p) v h e = (h, accepted-in u (Pdo n p) v h e)
+  sets c Resolution v h e = (h, accepted-in u Resolution v h e)
+  sets c (Operating a) v h e = (h, accepted-in u (Operating a) v h e)
+  sets c (Preset a) v h e =
+      let s = axisSettings a (u .running) in
+      zeroes a v (zeroedBy a v u) h (zero-fits (reading a u) (u .running .resolution) (s .operating) (s .differential) (signed 16 v))
+  sets c (Offset a) v h e = tt
+  sets c (Differential a) v h e = (h, accepted-in u (Differential a) v h e)
 
   -- an object's change, where the value's check and the device state's pass
-  changes : (c : Channel) (o : Object) (v : ℕ) → v < 256 ^ rowOf o .size → valueCheck (u .node) o v ≡ Pass → stateCheck o v u ≡ Pass → Allowed u (change c o v u)
+  changes : (c : Channel) (o : Object) (v : ℕ) → v < 256 ^ rowOf o .size → write o v u .value ≡ Pass → write o v u .state ≡ Pass → Allowed u (change c o v u)
   changes c (Const f) v h p e = tt
   changes c ErrorCount v h p e = tt
   changes c (ErrorEntry n) v h p e = tt
@@ -125,14 +124,14 @@ module _ (u : State) where
   changes c Load v h p e = fills c load refl e
   changes c Filled v h p e = tt
   changes c (Angle a) v h p e = tt
-  changes c (Of s) v h p e = sets s v h (passes (accepts (u .node) s v) 0x06090030 p)
+  changes c (Of s) v h p e = sets c s v h p
 
   -- an accepted write, whose checks all passed
   wrote : (c : Channel) (request : List ℕ) (given : ℕ) (o : Object) → writeCheck given o (valueFor o request) u ≡ Pass → Allowed u (change c o (valueFor o request) u)
   wrote c request given o e =
       let v = valueFor o request in
-      let state = stateCheck o v u in
-      let value = valueCheck (u .node) o v in
+      let state = write o v u .state in
+      let value = write o v u .value in
       let long = lengthCheck given (rowOf o .size) in
       let checked = passes-last long (value then state) (passes-last (unless (rowOf o .writable) 0x06010002) (long then value then state) e) in
       changes c o v (value-fits o request) (passes-first value state checked) (passes-last value state checked)
@@ -154,7 +153,7 @@ module _ (u : State) where
       })
 
   -- a channel's transfer stays absent, at the start or after seven bytes
-  pub transfer-in : (c : Channel) (request : List ℕ) → transferOk (get (transfer c) u) ≡ true → transferOk (outcome c request u .transfer) ≡ true
+  pub transfer-in : (c : Channel) (request : List ℕ) → transferOk (transferOf c u) ≡ true → transferOk (outcome c request u .transfer) ≡ true
   transfer-in c request h =
       each-outcome c request u (λ (o : Outcome). transferOk (o .transfer) ≡ true)
       (record {

@@ -24,12 +24,11 @@ use Rattle.rules.specs.declared.requests.Outcome.{Outcome}
 use Rattle.rules.specs.declared.settings.PdoSettings.{PdoSettings}
 use Rattle.rules.specs.declared.settings.Settings.{Settings}
 use Rattle.rules.specs.Block.{block, channelNumber, load, mostBlocks}
-use Rattle.rules.specs.Cells.{Kept, kept, get}
 use Rattle.rules.specs.Events.{journalFits}
 use Rattle.rules.specs.Numbers.{between, fits}
 use Rattle.rules.specs.Objects.{sameObject, settingRow}
 use Rattle.rules.specs.Ranges.{inRange, savesOk, errorsOk, elapsedOk, countsOk, transferOk}
-use Rattle.rules.specs.Service.{after, outcome, onSetting, onErrors, onKept, stores, storing, onHeartbeat, onCounts, onTransfer, valued, zeroedAt, sameAxis}
+use Rattle.rules.specs.Service.{Kept, after, outcome, onSetting, onErrors, keptIn, onKept, stores, storing, onHeartbeat, onCounts, onTransfer, valued, zeroedAt, sameAxis}
 use Rattle.rules.specs.Settings.{Held, every, inTable, setting, pdoSettingsOf, within}
 use Rattle.rules.specs.State.{State, absent, transferring, place, transferOf}
 use Rattle.rules.proofs.Block.{block-length}
@@ -117,7 +116,7 @@ module _ (u : State) (r : InRange u) where
     stored-in : (kind : ℕ) → inTable (storing kind (u .running)) ≡ true
     stored-in kind = cond-both (λ (t : Settings). inTable t ≡ true) (eqb kind load) factory-in (r .running)
 
-    fill-in : (c : Channel) (kind : ℕ) → Allowed u (Fill c kind) → Fits (onKept (Fill c kind) (storing kind (u .running)) (get kept u))
+    fill-in : (c : Channel) (kind : ℕ) → Allowed u (Fill c kind) → Fits (onKept (Fill c kind) (storing kind (u .running)) (keptIn u))
     fill-in c kind a =
         let t = storing kind (u .running) in
         let at = one-of (between 1 mostBlocks (u .saves .blocks)) (leb (u .saves .filled) (u .saves .blocks) ∷ leb (u .saves .spoiled) 1 ∷ inTable (u .saves .stored) ∷ []) (r .saves) in
@@ -130,7 +129,7 @@ module _ (u : State) (r : InRange u) where
           journal = simp (put-length (u .saves .filled) b (u .journal) enough (block-length (u .saves .filled + 1) (channelNumber c) kind t)) fit;
         }
 
-    kept-in : (e : Change) → Allowed u e → Fits (onKept e (stores e (u .running)) (get kept u))
+    kept-in : (e : Change) → Allowed u e → Fits (onKept e (stores e (u .running)) (keptIn u))
     kept-in Keep a = record { saves = r .saves; journal = fit }
     kept-in (Put s v) a = record { saves = r .saves; journal = fit }
     kept-in (Zero b preset offset) a = record { saves = r .saves; journal = fit }

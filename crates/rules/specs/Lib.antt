@@ -3,7 +3,6 @@
 pub mod Numbers
 -- The device and what moves it
 pub mod State
-pub mod Cells
 pub mod Results
 pub mod PowerOn
 pub mod Events
@@ -30,7 +29,5 @@ pub mod Check
 pub mod Block
 pub mod Journal
 pub mod Acknowledged
--- What a request reads and writes
-pub mod ReadsWrites
 -- Sample values
 pub mod Samples

@@ -16,17 +16,17 @@ use Rattle.rules.specs.declared.objects.PdoSetting.{PdoSetting}
 use Rattle.rules.specs.declared.objects.PdoSetting.the-variants.{On, Transmission, Timer}
 use Rattle.rules.specs.declared.objects.Setting.{Setting}
 use Rattle.rules.specs.declared.objects.Setting.the-variants.{Heartbeat, Pdo, Resolution, Operating, Preset, Offset, Differential}
+use Rattle.rules.specs.declared.parts.Identity.{Identity}
 use Rattle.rules.specs.declared.parts.Reading.{Reading}
 use Rattle.rules.specs.declared.requests.Got.{Got}
 use Rattle.rules.specs.declared.requests.Got.the-variants.{Number, Text, Missing}
 use Rattle.rules.specs.Angle.{angle}
-use Rattle.rules.specs.Cells.{Rest, running, errors, kept, axis, rest, get}
 use Rattle.rules.specs.Frames.{requestsAt, repliesAt}
 use Rattle.rules.specs.Numbers.{unsigned}
 use Rattle.rules.specs.Objects.{fixedRow, settingRow}
 use Rattle.rules.specs.Readings.{registerOf}
-use Rattle.rules.specs.Settings.{Held}
-use Rattle.rules.specs.State.{State, good}
+use Rattle.rules.specs.Settings.{Held, setting, axisSettings}
+use Rattle.rules.specs.State.{State, good, reading}
 use Rattle.rules.specs.Writes.{onValue, offValue}
 
 -- 1A00:1 and :2: 6010 and 6020, 16 bits
@@ -34,26 +34,26 @@ abbrev pub mapping : Axis → ℕ
 mapping X = 0x60100010
 mapping Y = 0x60200010
 
--- the objects that no request changes, by the error register and what no request changes
-unfoldable pub fixedValue : Fixed → ℕ → Rest → ℕ
-fixedValue DeviceType e t = 0x0002019A
-fixedValue ErrorRegister e t = e
-fixedValue SyncIdentifier e t = 0x80
-fixedValue SaveCount e t = 1
-fixedValue LoadCount e t = 1
-fixedValue EmergencyIdentifier e t = 0x80 + t .node
-fixedValue IdentityCount e t = 4
-fixedValue Vendor e t = t .identity .vendor
-fixedValue Product e t = t .identity .product
-fixedValue Revision e t = t .identity .revision
-fixedValue Serial e t = t .identity .serial
-fixedValue (ServerCount c) e t = 2
-fixedValue (RequestIdentifier c) e t = requestsAt c + t .node
-fixedValue (ReplyIdentifier c) e t = repliesAt c + t .node
-fixedValue (PdoCount n) e t = 5
-fixedValue MappingCount e t = 2
-fixedValue (Mapped a) e t = mapping a
-fixedValue Blocks e t = t .blocks
+-- the objects that no request changes, by error register, node, identity and number of blocks
+unfoldable pub fixedValue : Fixed → ℕ → ℕ → Identity → ℕ → ℕ
+fixedValue DeviceType register node identity blocks = 0x0002019A
+fixedValue ErrorRegister register node identity blocks = register
+fixedValue SyncIdentifier register node identity blocks = 0x80
+fixedValue SaveCount register node identity blocks = 1
+fixedValue LoadCount register node identity blocks = 1
+fixedValue EmergencyIdentifier register node identity blocks = 0x80 + node
+fixedValue IdentityCount register node identity blocks = 4
+fixedValue Vendor register node identity blocks = identity .vendor
+fixedValue Product register node identity blocks = identity .product
+fixedValue Revision register node identity blocks = identity .revision
+fixedValue Serial register node identity blocks = identity .serial
+fixedValue (ServerCount c) register node identity blocks = 2
+fixedValue (RequestIdentifier c) register node identity blocks = requestsAt c + node
+fixedValue (ReplyIdentifier c) register node identity blocks = repliesAt c + node
+fixedValue (PdoCount n) register node identity blocks = 5
+fixedValue MappingCount register node identity blocks = 2
+fixedValue (Mapped a) register node identity blocks = mapping a
+fixedValue Blocks register node identity blocks = blocks
 
 -- a setting as the number that is read
 abbrev pub pdoValue : PdoNumber → PdoSetting → ℕ → ℕ → ℕ
@@ -80,13 +80,14 @@ unfoldable pub entryRead : ℕ → ErrorList → Got
 entryRead n l = cond (leb n (l .length)) (Number 4 (getD (l .codes) (n - 1) 0)) (Missing 0x08000024)
 
 abbrev pub readOf : Object → State → Got
-readOf (Const f) u = Number (fixedRow f .size) (fixedValue f (registerOf u) (get rest u))
-readOf ErrorCount u = Number 1 (get errors u .length)
-readOf (ErrorEntry n) u = entryRead n (get errors u)
+readOf (Const f) u = Number (fixedRow f .size) (fixedValue f (registerOf u) (u .node) (u .identity) (u .saves .blocks))
+readOf ErrorCount u = Number 1 (u .errors .length)
+readOf (ErrorEntry n) u = entryRead n (u .errors)
 readOf Name u = Text
 readOf Save u = Number 4 1
 readOf Load u = Number 4 1
-readOf Filled u = Number 2 (get kept u .filled)
+readOf Filled u = Number 2 (u .saves .filled)
 readOf (Angle a) u =
-    angleRead (get (axis a) u) (get (running Resolution) u) (get (running (Operating a)) u) (get (running (Offset a)) u) (get (running (Differential a)) u)
-readOf (Of s) u = Number (settingRow s .size) (settingValue s (get rest u .node) (get (running s) u))
+    let s = axisSettings a (u .running) in
+    angleRead (reading a u) (u .running .resolution) (s .operating) (s .offset) (s .differential)
+readOf (Of s) u = Number (settingRow s .size) (settingValue s (u .node) (setting s (u .running)))

@@ -1,4 +1,4 @@
--- Service channels: the outcome of a request, and the outcome's act on each cell by itself.
+-- Service channels: the outcome of a request, and the state after it.
 use mathlib.Core.Bool.{Bool, true, false, cond, _||_}
 use mathlib.Core.List.{List, [], _∷_}
 use Prim.Native.Nat.{ℕ, _+_}
@@ -12,6 +12,7 @@ use Rattle.rules.specs.declared.objects.Channel.the-variants.{One, Two}
 use Rattle.rules.specs.declared.objects.Found.{Found}
 use Rattle.rules.specs.declared.objects.Found.the-variants.{At, NoObject, NoSubindex}
 use Rattle.rules.specs.declared.objects.PdoNumber.{PdoNumber}
+use Rattle.rules.specs.declared.objects.PdoNumber.the-variants.{First}
 use Rattle.rules.specs.declared.objects.PdoSetting.{PdoSetting}
 use Rattle.rules.specs.declared.objects.PdoSetting.the-variants.{On, Transmission, Timer}
 use Rattle.rules.specs.declared.objects.Setting.{Setting}
@@ -29,7 +30,6 @@ use Rattle.rules.specs.declared.requests.Verdict.{Verdict}
 use Rattle.rules.specs.declared.requests.Verdict.the-variants.{Pass, Abort}
 use Rattle.rules.specs.declared.settings.Settings.{Settings}
 use Rattle.rules.specs.Block.{block, channelNumber, load}
-use Rattle.rules.specs.Cells.{Kept, Cell, running, errors, kept, heartbeat, pdo, transfer, axis, rest, Content, get, stateOf}
 use Rattle.rules.specs.Errors.{noErrors}
 use Rattle.rules.specs.Journal.{putBehind}
 use Rattle.rules.specs.Numbers.{signed}
@@ -37,8 +37,8 @@ use Rattle.rules.specs.Objects.{sameObject, settingRow, onPdo, objectAt}
 use Rattle.rules.specs.Reads.{readOf}
 use Rattle.rules.specs.Replies.{written, readNumber, readText, aborted, firstSegment, lastSegment, wrongToggle, noTransfer}
 use Rattle.rules.specs.Requests.{command, index, subindex, valueFor}
-use Rattle.rules.specs.Settings.{Held, factory}
-use Rattle.rules.specs.State.{State, operational, preOperational, absent, atStart, afterSeven, transferring, noCounts}
+use Rattle.rules.specs.Settings.{Held, setting, settingsOf, factory}
+use Rattle.rules.specs.State.{State, operational, preOperational, absent, atStart, afterSeven, transferring, noCounts, transferOf}
 use Rattle.rules.specs.Writes.{change, writeCheck}
 
 -- a reply, with the transfer after it and the change; and no reply
@@ -77,7 +77,7 @@ onCommand c request (Write given) NoSubindex u = refuse request 0x06090011
 onCommand c request Read (At o) u = onRead request (readOf o u)
 onCommand c request Read NoObject u = refuse request 0x06020000
 onCommand c request Read NoSubindex u = refuse request 0x06090011
-onCommand c request (Segment toggle) f u = onSegment toggle (get (transfer c) u)
+onCommand c request (Segment toggle) f u = onSegment toggle (transferOf c u)
 onCommand c request End f u = silent (transferring absent)
 onCommand c request Unknown f u = refuse request 0x05040001
 
@@ -87,9 +87,9 @@ served network = eqb network preOperational || eqb network operational
 
 abbrev pub outcome : Channel → List ℕ → State → Outcome
 outcome c request u =
-    cond (served (get rest u .network))
+    cond (served (u .network))
     (onCommand c request (command request) (objectAt (index request) (subindex request)) u)
-    (silent (get (transfer c) u))
+    (silent (transferOf c u))
 
 -- a written value as a setting holds it; bit 31 of 1800:1 is "off"
 abbrev pub pdoValued : PdoSetting → ℕ → ℕ
@@ -149,6 +149,15 @@ stores (Zero a preset offset) t = factory
 stores Empty t = factory
 stores (Fill c kind) t = storing kind t
 
+-- what only a save or a load changes
+pub record Kept : Type 0 where
+  pub filled : ℕ
+  pub stored : Settings
+  pub journal : List ℕ
+
+abbrev pub keptIn : State → Kept
+keptIn u = record { filled = u .saves .filled; stored = u .saves .stored; journal = u .journal }
+
 -- the next block filled with settings; "Both update the stored settings"
 abbrev pub onKept : Change → Settings → Kept → Kept
 onKept Keep t x = x
@@ -184,17 +193,22 @@ onTransfer One Two next x = x
 onTransfer Two One next x = x
 onTransfer Two Two next x = next
 
--- the outcome's act on a cell, with the settings that it would store
-abbrev pub act : Channel → Outcome → Settings → (k : Cell) → Content k → Content k
-act c o t (running s) x = onSetting (o .change) s x
-act c o t errors x = onErrors (o .change) x
-act c o t kept x = onKept (o .change) t x
-act c o t heartbeat x = onHeartbeat (o .change) x
-act c o t (pdo n) x = onCounts n (o .change) x
-act c o t (transfer b) x = onTransfer c b (o .transfer) x
-act c o t (axis a) x = x
-act c o t rest x = x
-
 -- the state after an outcome on a channel
 abbrev pub after : Channel → Outcome → State → State
-after c o u = stateOf (λ k. act c o (stores (o .change) (u .running)) k (get k u))
+after c o u =
+    let e = o .change in
+    let kept = onKept e (stores e (u .running)) (keptIn u) in
+    record {
+      node = u .node;
+      identity = u .identity;
+      network = u .network;
+      saves = record { blocks = u .saves .blocks; filled = kept .filled; spoiled = u .saves .spoiled; stored = kept .stored };
+      running = settingsOf (λ s. onSetting e s (setting s (u .running)));
+      errors = onErrors e (u .errors);
+      heartbeat = onHeartbeat e (u .heartbeat);
+      pdo = onCounts First e (u .pdo);
+      transfers = onTransfer c One (o .transfer) (transferOf One u) ∷ onTransfer c Two (o .transfer) (transferOf Two u) ∷ [];
+      x = u .x;
+      y = u .y;
+      journal = kept .journal;
+    }

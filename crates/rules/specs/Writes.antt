@@ -19,12 +19,11 @@ use Rattle.rules.specs.declared.requests.Zeroed.{Zeroed}
 use Rattle.rules.specs.declared.requests.Zeroed.the-variants.{To, Refused}
 use Rattle.rules.specs.Angle.{zeroed}
 use Rattle.rules.specs.Block.{save, load}
-use Rattle.rules.specs.Cells.{running, kept, axis, rest, get}
 use Rattle.rules.specs.Frames.{pdoAt}
 use Rattle.rules.specs.Numbers.{signed}
 use Rattle.rules.specs.Objects.{rowOf}
-use Rattle.rules.specs.Settings.{within, pdoWithin}
-use Rattle.rules.specs.State.{State}
+use Rattle.rules.specs.Settings.{within, pdoWithin, axisSettings}
+use Rattle.rules.specs.State.{State, reading}
 
 -- one check after the other: the first that refuses gives its code
 abbrev pub _then_ : Verdict → Verdict → Verdict
@@ -48,94 +47,81 @@ onValue n node = 0x40000000 + pdoAt n + node
 abbrev pub offValue : PdoNumber → ℕ → ℕ
 offValue n node = 0xC0000000 + pdoAt n + node
 
--- the accepted values of a setting; every i16 is one
 abbrev pub pdoAccepts : ℕ → PdoNumber → PdoSetting → ℕ → Bool
 pdoAccepts node n On v = eqb v (onValue n node) || eqb v (offValue n node)
 pdoAccepts node n Transmission v = pdoWithin Transmission v
 pdoAccepts node n Timer v = pdoWithin Timer v
 
-abbrev pub accepts : ℕ → Setting → ℕ → Bool
-accepts node Heartbeat v = within Heartbeat v
-accepts node (Pdo n p) v = pdoAccepts node n p v
-accepts node Resolution v = within Resolution v
-accepts node (Operating a) v = within (Operating a) v
-accepts node (Preset a) v = true
-accepts node (Offset a) v = true
-accepts node (Differential a) v = true
+-- what a write comes to: the check of its value, the check of the device state, and what it changes, by its channel, where both pass
+pub record Write : Type 0 where
+  pub value : Verdict
+  pub state : Verdict
+  pub change : Channel → Change
 
--- "value 06090030h (wrong signature: 08000020h)"; 1003:0 "write 0 only"
-abbrev pub valueCheck : ℕ → Object → ℕ → Verdict
-valueCheck node (Const f) v = Pass
-valueCheck node ErrorCount v = unless (eqb v 0) 0x06090030
-valueCheck node (ErrorEntry n) v = Pass
-valueCheck node Name v = Pass
-valueCheck node Save v = unless (eqb v 0x65766173) 0x08000020
-valueCheck node Load v = unless (eqb v 0x64616F6C) 0x08000020
-valueCheck node Filled v = Pass
-valueCheck node (Angle a) v = Pass
-valueCheck node (Of s) v = unless (accepts node s v) 0x06090030
+-- what is read-only is refused before
+abbrev pub readOnlyWrite : Write
+readOnlyWrite = record { value = Pass; state = Pass; change = λ c. Keep }
+
+-- "value 06090030h"
+abbrev pub valueWrite : Bool → Change → Write
+valueWrite accepted e = record { value = unless accepted 0x06090030; state = Pass; change = λ c. e }
 
 -- "Spoiled: 06060000h; else full: 05040005h"
 unfoldable pub roomCheck : ℕ → ℕ → ℕ → Verdict
 roomCheck spoiled filled blocks = unless (eqb spoiled 0) 0x06060000 then unless (ltb filled blocks) 0x05040005
 
+-- "wrong signature: 08000020h"; a save or a load fills the next block
+abbrev pub fillWrite : Bool → ℕ → State → Write
+fillWrite signature kind u = record {
+  value = unless signature 0x08000020;
+  state = roomCheck (u .saves .spoiled) (u .saves .filled) (u .saves .blocks);
+  change = λ c. Fill c kind;
+}
+
 -- what a preset makes of its axis, by "6000, 6011, 6014" and the axis
 abbrev pub zeroedBy : Axis → ℕ → State → Zeroed
 zeroedBy a v u =
-    zeroed (get (axis a) u) (get (running Resolution) u) (get (running (Operating a)) u) (get (running (Differential a)) u) (signed 16 v)
+    let s = axisSettings a (u .running) in
+    zeroed (reading a u) (u .running .resolution) (s .operating) (s .differential) (signed 16 v)
 
+-- refused by the rule, or "An accepted write of 6012 stores the preset, and offset = …"
 abbrev pub zeroCheck : Zeroed → Verdict
 zeroCheck (To offset) = Pass
 zeroCheck (Refused code) = Abort code
 
--- "device state"
-abbrev pub settingCheck : Setting → ℕ → State → Verdict
-settingCheck Heartbeat v u = Pass
-settingCheck (Pdo n p) v u = Pass
-settingCheck Resolution v u = Pass
-settingCheck (Operating a) v u = Pass
-settingCheck (Preset a) v u = zeroCheck (zeroedBy a v u)
-settingCheck (Offset a) v u = Pass
-settingCheck (Differential a) v u = Pass
-
-abbrev pub stateCheck : Object → ℕ → State → Verdict
-stateCheck (Const f) v u = Pass
-stateCheck ErrorCount v u = Pass
-stateCheck (ErrorEntry n) v u = Pass
-stateCheck Name v u = Pass
-stateCheck Save v u = roomCheck (get rest u .spoiled) (get kept u .filled) (get rest u .blocks)
-stateCheck Load v u = roomCheck (get rest u .spoiled) (get kept u .filled) (get rest u .blocks)
-stateCheck Filled v u = Pass
-stateCheck (Angle a) v u = Pass
-stateCheck (Of s) v u = settingCheck s v u
-
--- "access, writing read-only (06010002h); length …; value …; device state"
-abbrev pub writeCheck : ℕ → Object → ℕ → State → Verdict
-writeCheck given o v u =
-    unless (rowOf o .writable) 0x06010002 then lengthCheck given (rowOf o .size) then valueCheck (get rest u .node) o v then stateCheck o v u
-
--- "An accepted write of 6012 stores the preset, and offset = …"
 abbrev pub zeroChange : Axis → ℕ → Zeroed → Change
 zeroChange a v (To offset) = Zero a (signed 16 v) offset
 zeroChange a v (Refused code) = Keep
 
-abbrev pub settingChange : Setting → ℕ → State → Change
-settingChange Heartbeat v u = Put Heartbeat v
-settingChange (Pdo n p) v u = Put (Pdo n p) v
-settingChange Resolution v u = Put Resolution v
-settingChange (Operating a) v u = Put (Operating a) v
-settingChange (Preset a) v u = zeroChange a v (zeroedBy a v u)
-settingChange (Offset a) v u = Keep
-settingChange (Differential a) v u = Put (Differential a) v
+abbrev pub presetWrite : Axis → ℕ → Zeroed → Write
+presetWrite a v z = record { value = Pass; state = zeroCheck z; change = λ c. zeroChange a v z }
 
--- 1003:0 "empties the list"; a save or a load fills the next block
+-- the accepted values of a setting; every i16 is one
+abbrev pub settingWrite : Setting → ℕ → State → Write
+settingWrite Heartbeat v u = valueWrite (within Heartbeat v) (Put Heartbeat v)
+settingWrite (Pdo n p) v u = valueWrite (pdoAccepts (u .node) n p v) (Put (Pdo n p) v)
+settingWrite Resolution v u = valueWrite (within Resolution v) (Put Resolution v)
+settingWrite (Operating a) v u = valueWrite (within (Operating a) v) (Put (Operating a) v)
+settingWrite (Preset a) v u = presetWrite a v (zeroedBy a v u)
+settingWrite (Offset a) v u = readOnlyWrite
+settingWrite (Differential a) v u = valueWrite true (Put (Differential a) v)
+
+-- 1003:0 "write 0 only; empties the list"; 1010:1 "save", 1011:1 "load"
+abbrev pub write : Object → ℕ → State → Write
+write (Const f) v u = readOnlyWrite
+write ErrorCount v u = valueWrite (eqb v 0) Empty
+write (ErrorEntry n) v u = readOnlyWrite
+write Name v u = readOnlyWrite
+write Save v u = fillWrite (eqb v 0x65766173) save u
+write Load v u = fillWrite (eqb v 0x64616F6C) load u
+write Filled v u = readOnlyWrite
+write (Angle a) v u = readOnlyWrite
+write (Of s) v u = settingWrite s v u
+
+-- "access, writing read-only (06010002h); length …; value …; device state"
+abbrev pub writeCheck : ℕ → Object → ℕ → State → Verdict
+writeCheck given o v u =
+    unless (rowOf o .writable) 0x06010002 then lengthCheck given (rowOf o .size) then write o v u .value then write o v u .state
+
 abbrev pub change : Channel → Object → ℕ → State → Change
-change c (Const f) v u = Keep
-change c ErrorCount v u = Empty
-change c (ErrorEntry n) v u = Keep
-change c Name v u = Keep
-change c Save v u = Fill c save
-change c Load v u = Fill c load
-change c Filled v u = Keep
-change c (Angle a) v u = Keep
-change c (Of s) v u = settingChange s v u
+change c o v u = write o v u .change c

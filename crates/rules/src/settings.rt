@@ -51,6 +51,10 @@ impl PdoSettings {
 
     pub const LEAST_TIMED: u8 = 254;
 
+    pub const MOST_TIMED: u8 = 255;
+
+    pub const MOST_TIMER: u16 = 65535;
+
     pub fn factory() -> Self
         ensures { λ r. ⌜ r ≡ pdoFactory ⌝ }
     {
@@ -64,6 +68,8 @@ impl PdoSettings {
 
 impl Settings {
     pub const LEAST_PERIOD: u16 = 25;
+
+    pub const MOST_PERIOD: u16 = 65535;
 
     pub fn factory() -> Self
         ensures { λ r. ⌜ r ≡ factory ⌝ }

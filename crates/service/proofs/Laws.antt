@@ -13,8 +13,8 @@ use Rattle.rules.specs.declared.requests.Change.{Change}
 use Rattle.rules.specs.declared.requests.Outcome.{Outcome}
 use Rattle.rules.specs.declared.requests.Verdict.{Verdict}
 use Rattle.rules.specs.declared.requests.Verdict.the-variants.{Pass, Abort}
-use Rattle.rules.specs.Cells.{transfer, get}
 use Rattle.rules.specs.Service.{refuse, onWrite}
+use Rattle.rules.specs.State.{transferOf}
 use Rattle.view.specs.declared.View.{View}
 use Rattle.view.specs.Seen.{seen}
 use Rattle.writes.specs.Written.{writtenOf}
@@ -40,6 +40,6 @@ pub judged : (request : List ℕ) (v : Verdict) (e : Change) → wrote request (
 judged request Pass e = refl
 judged request (Abort code) e = refl
 
-pub own-transfer : (c : Channel) (v : View) → get (transfer c) (seen v) ≡ v .transfer
+pub own-transfer : (c : Channel) (v : View) → transferOf c (seen v) ≡ v .transfer
 own-transfer One v = refl
 own-transfer Two v = refl

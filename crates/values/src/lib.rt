@@ -8,7 +8,6 @@ use rules::settings::PdoSettings;
 use view::View;
 ghost use mathlib.Core.Path.{_≡_};
 ghost use Rattle.rules.specs.declared.objects.PdoSetting.the-variants.{On};
-ghost use Rattle.rules.specs.Cells.{rest, get};
 ghost use Rattle.rules.specs.Reads.{mapping as mappingOf, fixedValue, pdoValue, settingValue};
 ghost use Rattle.rules.specs.Readings.{registerOf};
 ghost use Rattle.rules.specs.Settings.{pdoSetting, setting};
@@ -25,7 +24,7 @@ fn mapping(axis: Axis) -> u32
 
 // The objects that no request changes.
 pub fn fixed_value(f: Fixed, v: View) -> u32
-    ensures { λ r. ⌜ r ≡ fixedValue f (registerOf (seen v)) (get rest (seen v)) ⌝ }
+    ensures { λ r. ⌜ r ≡ fixedValue f (registerOf (seen v)) (v .node) (v .identity) (v .blocks) ⌝ }
 {
     let node = v.node as u32;
     match f {
