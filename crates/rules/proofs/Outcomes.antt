@@ -32,7 +32,7 @@ use Rattle.rules.specs.Requests.{valueFor}
 use Rattle.rules.specs.Service.{outcome, valued}
 use Rattle.rules.specs.Settings.{within, pdoWithin, axisSettings}
 use Rattle.rules.specs.State.{State, good, reading, transferOf}
-use Rattle.rules.specs.Writes.{_then_, unless, lengthCheck, roomCheck, zeroedBy, zeroChange, settingWrite, write, writeCheck, change}
+use Rattle.rules.specs.Writes.{_then_, unless, lengthCheck, roomCheck, zeroedBy, zeroChange, settingWrite, writeOf, writeCheck, change}
 use Rattle.rules.specs.Ranges.{transferOk}
 use Rattle.rules.proofs.EachOutcome.{each-outcome}
 use Rattle.rules.proofs.Ranges.{signed-fits}
@@ -115,7 +115,7 @@ module _ (u : State) where
   sets c (Differential a) v h e = (h, accepted-in u (Differential a) v h e)
 
   -- an object's change, where the value's check and the device state's pass
-  changes : (c : Channel) (o : Object) (v : ℕ) → v < 256 ^ rowOf o .size → write o v u .value ≡ Pass → write o v u .state ≡ Pass → Allowed u (change c o v u)
+  changes : (c : Channel) (o : Object) (v : ℕ) → v < 256 ^ rowOf o .size → writeOf o v u .value ≡ Pass → writeOf o v u .state ≡ Pass → Allowed u (change c o v u)
   changes c (Const f) v h p e = tt
   changes c ErrorCount v h p e = tt
   changes c (ErrorEntry n) v h p e = tt
@@ -130,8 +130,8 @@ module _ (u : State) where
   wrote : (c : Channel) (request : List ℕ) (given : ℕ) (o : Object) → writeCheck given o (valueFor o request) u ≡ Pass → Allowed u (change c o (valueFor o request) u)
   wrote c request given o e =
       let v = valueFor o request in
-      let state = write o v u .state in
-      let value = write o v u .value in
+      let state = writeOf o v u .state in
+      let value = writeOf o v u .value in
       let long = lengthCheck given (rowOf o .size) in
       let checked = passes-last long (value then state) (passes-last (unless (rowOf o .writable) 0x06010002) (long then value then state) e) in
       changes c o v (value-fits o request) (passes-first value state checked) (passes-last value state checked)

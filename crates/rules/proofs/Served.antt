@@ -26,7 +26,7 @@ use Rattle.rules.specs.declared.settings.Settings.{Settings}
 use Rattle.rules.specs.Block.{block, channelNumber, load, mostBlocks}
 use Rattle.rules.specs.Events.{journalFits}
 use Rattle.rules.specs.Numbers.{between, fits}
-use Rattle.rules.specs.Objects.{sameObject, settingRow}
+use Rattle.rules.specs.Objects.{sameSetting}
 use Rattle.rules.specs.Ranges.{inRange, savesOk, errorsOk, elapsedOk, countsOk, transferOk}
 use Rattle.rules.specs.Service.{Kept, after, outcome, onSetting, onErrors, keptIn, onKept, stores, storing, onHeartbeat, onCounts, onTransfer, valued, zeroedAt, sameAxis}
 use Rattle.rules.specs.Settings.{Held, every, inTable, setting, pdoSettingsOf, within}
@@ -46,7 +46,7 @@ module _ (u : State) (r : InRange u) where
   -- each setting after a change
   put-in : (t s : Setting) (v : ℕ) → within t (valued t v) ≡ true → within s (onSetting (Put t v) s (was s)) ≡ true
   put-in t s v h =
-      cond-each (λ (x : Held s). within s x ≡ true) (sameObject (settingRow s) (settingRow t))
+      cond-each (λ (x : Held s). within s x ≡ true) (sameSetting s t)
       (λ e. subst (λ (z : Setting). within z (valued z v) ≡ true) (sym (one-setting s t e)) h)
       (λ e. setting-in (u .running) (r .running) s)
 

@@ -11,6 +11,7 @@ use Rattle.rules.specs.declared.objects.Channel.{Channel}
 use Rattle.rules.specs.declared.objects.Channel.the-variants.{One, Two}
 use Rattle.rules.specs.declared.objects.Found.{Found}
 use Rattle.rules.specs.declared.objects.Found.the-variants.{At, NoObject, NoSubindex}
+use Rattle.rules.specs.declared.objects.Object.{Object}
 use Rattle.rules.specs.declared.objects.PdoNumber.{PdoNumber}
 use Rattle.rules.specs.declared.objects.PdoNumber.the-variants.{First}
 use Rattle.rules.specs.declared.objects.PdoSetting.{PdoSetting}
@@ -33,7 +34,7 @@ use Rattle.rules.specs.Block.{block, channelNumber, load}
 use Rattle.rules.specs.Errors.{noErrors}
 use Rattle.rules.specs.Journal.{putBehind}
 use Rattle.rules.specs.Numbers.{signed}
-use Rattle.rules.specs.Objects.{sameObject, settingRow, onPdo, objectAt}
+use Rattle.rules.specs.Objects.{sameSetting, ofPdo, objectAt}
 use Rattle.rules.specs.Reads.{readOf}
 use Rattle.rules.specs.Replies.{written, readNumber, readText, aborted, firstSegment, lastSegment, wrongToggle, noTransfer}
 use Rattle.rules.specs.Requests.{command, index, subindex, valueFor}
@@ -69,14 +70,21 @@ onSegment toggle t =
     (cond (eqb (t .stage) atStart) (cond (eqb toggle 0) (replied firstSegment afterSeven Keep) (replied wrongToggle absent Keep))
     (cond (eqb toggle 1) (replied lastSegment absent Keep) (replied wrongToggle absent Keep)))
 
--- "Checks in order: first byte; object (06020000h); subindex (06090011h) …"; "All others get 05040001h"; "80h ends the transfer, no reply"
+-- "object (06020000h); subindex (06090011h)"; 0 where one is found
+abbrev pub missingCode : Found → ℕ
+missingCode (At o) = 0
+missingCode NoObject = 0x06020000
+missingCode NoSubindex = 0x06090011
+
+abbrev pub onFound : List ℕ → Found → (Object → Outcome) → Outcome
+onFound request (At o) on = on o
+onFound request NoObject on = refuse request (missingCode NoObject)
+onFound request NoSubindex on = refuse request (missingCode NoSubindex)
+
+-- "Checks in order: first byte; object …; subindex …"; "All others get 05040001h"; "80h ends the transfer, no reply"
 abbrev pub onCommand : Channel → List ℕ → Command → Found → State → Outcome
-onCommand c request (Write given) (At o) u = onWrite request (writeCheck given o (valueFor o request) u) (change c o (valueFor o request) u)
-onCommand c request (Write given) NoObject u = refuse request 0x06020000
-onCommand c request (Write given) NoSubindex u = refuse request 0x06090011
-onCommand c request Read (At o) u = onRead request (readOf o u)
-onCommand c request Read NoObject u = refuse request 0x06020000
-onCommand c request Read NoSubindex u = refuse request 0x06090011
+onCommand c request (Write given) f u = onFound request f (λ o. let v = valueFor o request in onWrite request (writeCheck given o v u) (change c o v u))
+onCommand c request Read f u = onFound request f (λ o. onRead request (readOf o u))
 onCommand c request (Segment toggle) f u = onSegment toggle (transferOf c u)
 onCommand c request End f u = silent (transferring absent)
 onCommand c request Unknown f u = refuse request 0x05040001
@@ -125,7 +133,7 @@ zeroedAt a preset offset (Differential b) x = x
 -- "running ones wait for a reset": a save or a load leaves them
 abbrev pub onSetting : Change → (s : Setting) → Held s → Held s
 onSetting Keep s x = x
-onSetting (Put t v) s x = cond (sameObject (settingRow s) (settingRow t)) (valued s v) x
+onSetting (Put t v) s x = cond (sameSetting s t) (valued s v) x
 onSetting (Zero a preset offset) s x = zeroedAt a preset offset s x
 onSetting Empty s x = x
 onSetting (Fill c kind) s x = x
@@ -173,7 +181,7 @@ onKept (Fill c kind) t x = record {
 -- "A write to 1017 zeroes the heartbeat's" count
 abbrev pub onHeartbeat : Change → ℕ → ℕ
 onHeartbeat Keep x = x
-onHeartbeat (Put s v) x = cond (eqb (settingRow s .index) 0x1017) 0 x
+onHeartbeat (Put s v) x = cond (sameSetting s Heartbeat) 0 x
 onHeartbeat (Zero a preset offset) x = x
 onHeartbeat Empty x = x
 onHeartbeat (Fill c kind) x = x
@@ -181,7 +189,7 @@ onHeartbeat (Fill c kind) x = x
 -- "so does an accepted write to 1800": it zeroes the PDO's elapsed and SYNC counts
 abbrev pub onCounts : PdoNumber → Change → PdoCounts → PdoCounts
 onCounts n Keep x = x
-onCounts n (Put s v) x = cond (eqb (settingRow s .index) (onPdo n)) noCounts x
+onCounts n (Put s v) x = cond (ofPdo n s) noCounts x
 onCounts n (Zero a preset offset) x = x
 onCounts n Empty x = x
 onCounts n (Fill c kind) x = x

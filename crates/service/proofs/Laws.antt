@@ -13,12 +13,11 @@ use Rattle.rules.specs.declared.requests.Change.{Change}
 use Rattle.rules.specs.declared.requests.Outcome.{Outcome}
 use Rattle.rules.specs.declared.requests.Verdict.{Verdict}
 use Rattle.rules.specs.declared.requests.Verdict.the-variants.{Pass, Abort}
-use Rattle.rules.specs.Service.{refuse, onWrite}
+use Rattle.rules.specs.Service.{refuse, missingCode, onWrite}
 use Rattle.rules.specs.State.{transferOf}
 use Rattle.view.specs.declared.View.{View}
 use Rattle.view.specs.Seen.{seen}
 use Rattle.writes.specs.Written.{writtenOf}
-use Rattle.service.specs.Missing.{missingCode}
 use Rattle.service.specs.Wrote.{wrote}
 
 -- where no object is, a read and a write are refused alike

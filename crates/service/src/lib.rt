@@ -17,12 +17,11 @@ ghost use Rattle.rules.specs.declared.requests.Change.the-variants.{Keep};
 ghost use Rattle.rules.specs.Objects.{objectAt};
 ghost use Rattle.rules.specs.Requests;
 ghost use Rattle.rules.specs.Service;
-ghost use Rattle.rules.specs.Service.{replied, onRead, onSegment, onCommand};
+ghost use Rattle.rules.specs.Service.{replied, missingCode, onRead, onSegment, onCommand};
 ghost use Rattle.view.specs.Seen.{seen, Sound};
 ghost use lib.ListN.{getD};
 ghost use Rattle.rules.specs.State.{place, absent, transferring, noTransfers};
 ghost use Rattle.service.specs.Transfers.{transfersAfter};
-ghost use Rattle.service.specs.Missing.{missingCode};
 ghost use Rattle.service.specs.Wrote;
 
 // A reply with no change.
