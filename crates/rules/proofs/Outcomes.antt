@@ -29,11 +29,12 @@ use Rattle.rules.specs.Block.{save, load}
 use Rattle.rules.specs.Numbers.{between, fourAt, fits, signed}
 use Rattle.rules.specs.Objects.{rowOf, settingRow}
 use Rattle.rules.specs.Requests.{valueFor}
-use Rattle.rules.specs.Service.{outcome, valued}
+use Rattle.rules.specs.Service.{outcome}
 use Rattle.rules.specs.Settings.{within, pdoWithin, axisSettings}
 use Rattle.rules.specs.State.{State, good, reading, transferOf}
 use Rattle.rules.specs.Writes.{_then_, unless, lengthCheck, roomCheck, zeroedBy, zeroChange, settingWrite, writeOf, writeCheck, change}
 use Rattle.rules.specs.Ranges.{transferOk}
+use Rattle.rules.proofs.BySetting.{valued}
 use Rattle.rules.proofs.EachOutcome.{each-outcome}
 use Rattle.rules.proofs.Ranges.{signed-fits}
 

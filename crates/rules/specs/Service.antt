@@ -6,7 +6,6 @@ use lib.Dec.{eqb, ltb}
 use lib.IntN.{ℤ}
 use Rattle.rules.specs.declared.errors.ErrorList.{ErrorList}
 use Rattle.rules.specs.declared.objects.Axis.{Axis}
-use Rattle.rules.specs.declared.objects.Axis.the-variants.{X, Y}
 use Rattle.rules.specs.declared.objects.Channel.{Channel}
 use Rattle.rules.specs.declared.objects.Channel.the-variants.{One, Two}
 use Rattle.rules.specs.declared.objects.Found.{Found}
@@ -29,6 +28,7 @@ use Rattle.rules.specs.declared.requests.Got.the-variants.{Number, Text,
 use Rattle.rules.specs.declared.requests.Outcome.{Outcome}
 use Rattle.rules.specs.declared.requests.Verdict.{Verdict}
 use Rattle.rules.specs.declared.requests.Verdict.the-variants.{Pass, Abort}
+use Rattle.rules.specs.declared.settings.PdoSettings.{PdoSettings}
 use Rattle.rules.specs.declared.settings.Settings.{Settings}
 use Rattle.rules.specs.Block.{block, channelNumber, load}
 use Rattle.rules.specs.Errors.{noErrors}
@@ -38,7 +38,7 @@ use Rattle.rules.specs.Objects.{sameSetting, ofPdo, objectAt}
 use Rattle.rules.specs.Reads.{readOf}
 use Rattle.rules.specs.Replies.{written, readNumber, readText, aborted, firstSegment, lastSegment, wrongToggle, noTransfer}
 use Rattle.rules.specs.Requests.{command, index, subindex, valueFor}
-use Rattle.rules.specs.Settings.{Held, setting, settingsOf, factory}
+use Rattle.rules.specs.Settings.{factory, axisSettings, pdoSettings, withAxis, withPdo}
 use Rattle.rules.specs.State.{State, operational, preOperational, absent, atStart, afterSeven, transferring, noCounts, transferOf}
 use Rattle.rules.specs.Writes.{change, writeCheck}
 
@@ -99,44 +99,38 @@ outcome c request u =
     (onCommand c request (command request) (objectAt (index request) (subindex request)) u)
     (silent (transferOf c u))
 
--- a written value as a setting holds it; bit 31 of 1800:1 is "off"
-abbrev pub pdoValued : PdoSetting → ℕ → ℕ
-pdoValued On v = cond (ltb v 0x80000000) 1 0
-pdoValued Transmission v = v
-pdoValued Timer v = v
+-- a written value in its setting; bit 31 of 1800:1 is "off"
+abbrev pub putPdo : PdoSetting → ℕ → PdoSettings → PdoSettings
+putPdo On v s = record { on = cond (ltb v 0x80000000) 1 0; transmission = s .transmission; timer = s .timer }
+putPdo Transmission v s = record { on = s .on; transmission = v; timer = s .timer }
+putPdo Timer v s = record { on = s .on; transmission = s .transmission; timer = v }
 
-abbrev pub valued : (s : Setting) → ℕ → Held s
-valued Heartbeat v = v
-valued (Pdo n p) v = pdoValued p v
-valued Resolution v = v
-valued (Operating a) v = v
-valued (Preset a) v = signed 16 v
-valued (Offset a) v = signed 16 v
-valued (Differential a) v = signed 16 v
+-- an axis's preset, with the offset that comes with it
+abbrev pub zeroAt : Axis → ℤ → ℤ → Settings → Settings
+zeroAt a preset offset t =
+    let s = axisSettings a t in
+    withAxis a (record { operating = s .operating; preset = preset; offset = offset; differential = s .differential }) t
 
-abbrev pub sameAxis : Axis → Axis → Bool
-sameAxis X X = true
-sameAxis X Y = false
-sameAxis Y X = false
-sameAxis Y Y = true
-
--- an axis's preset and offset
-abbrev pub zeroedAt : Axis → ℤ → ℤ → (s : Setting) → Held s → Held s
-zeroedAt a preset offset Heartbeat x = x
-zeroedAt a preset offset (Pdo n p) x = x
-zeroedAt a preset offset Resolution x = x
-zeroedAt a preset offset (Operating b) x = x
-zeroedAt a preset offset (Preset b) x = cond (sameAxis a b) preset x
-zeroedAt a preset offset (Offset b) x = cond (sameAxis a b) offset x
-zeroedAt a preset offset (Differential b) x = x
+abbrev pub put : Setting → ℕ → Settings → Settings
+put Heartbeat v t = record { heartbeat = v; pdo = t .pdo; resolution = t .resolution; x = t .x; y = t .y }
+put (Pdo n p) v t = withPdo n (putPdo p v (pdoSettings n t)) t
+put Resolution v t = record { heartbeat = t .heartbeat; pdo = t .pdo; resolution = v; x = t .x; y = t .y }
+put (Operating a) v t =
+    let s = axisSettings a t in
+    withAxis a (record { operating = v; preset = s .preset; offset = s .offset; differential = s .differential }) t
+put (Preset a) v t = zeroAt a (signed 16 v) (axisSettings a t .offset) t
+put (Offset a) v t = zeroAt a (axisSettings a t .preset) (signed 16 v) t
+put (Differential a) v t =
+    let s = axisSettings a t in
+    withAxis a (record { operating = s .operating; preset = s .preset; offset = s .offset; differential = signed 16 v }) t
 
 -- "running ones wait for a reset": a save or a load leaves them
-abbrev pub onSetting : Change → (s : Setting) → Held s → Held s
-onSetting Keep s x = x
-onSetting (Put t v) s x = cond (sameSetting s t) (valued s v) x
-onSetting (Zero a preset offset) s x = zeroedAt a preset offset s x
-onSetting Empty s x = x
-onSetting (Fill c kind) s x = x
+abbrev pub runningAfter : Change → Settings → Settings
+runningAfter Keep t = t
+runningAfter (Put s v) t = put s v t
+runningAfter (Zero a preset offset) t = zeroAt a preset offset t
+runningAfter Empty t = t
+runningAfter (Fill c kind) t = t
 
 abbrev pub onErrors : Change → ErrorList → ErrorList
 onErrors Keep x = x
@@ -211,7 +205,7 @@ after c o u =
       identity = u .identity;
       network = u .network;
       saves = record { blocks = u .saves .blocks; filled = kept .filled; spoiled = u .saves .spoiled; stored = kept .stored };
-      running = settingsOf (λ s. onSetting e s (setting s (u .running)));
+      running = runningAfter e (u .running);
       errors = onErrors e (u .errors);
       heartbeat = onHeartbeat e (u .heartbeat);
       pdo = onCounts First e (u .pdo);
