@@ -99,6 +99,7 @@ works-once sensor (node, identity, j, on, first, bytes, n, dead) meets =
     some (bootUp (u .node))
     (sym silent ∙ ap sent (meets network (toAll 0x82) 2 u) ∙ boots u (event-stays start (start-stays node identity j on) first bytes n))
 
+-- reads of 1000:0 and of 1018:0 are answered 43h and 4Fh first
 abbrev firstByte : List Frame → ℕ
 firstByte [] = 0
 firstByte (f ∷ fs) = getD (f .bytes) 0 0
