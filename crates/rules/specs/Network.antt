@@ -9,10 +9,11 @@ use Rattle.rules.specs.declared.events.Frame.{Frame}
 use Rattle.rules.specs.declared.parts.Identity.{Identity}
 use Rattle.rules.specs.declared.parts.Reading.{Reading}
 use Rattle.rules.specs.declared.parts.Saves.{Saves}
+use Rattle.rules.specs.declared.settings.Settings.{Settings}
 use Rattle.rules.specs.Errors.{noErrors, entered, register}
 use Rattle.rules.specs.Frames.{bootUp, emergency}
 use Rattle.rules.specs.Results.{Result, accepted, ignored}
-use Rattle.rules.specs.State.{State, stopped, operational, preOperational, none, noTransfers, noCounts, withNetwork}
+use Rattle.rules.specs.State.{State, stopped, operational, preOperational, none, noTransfers, noCounts, moved, withNetwork}
 
 abbrev pub noReading : Reading
 noReading = record { state = none; m = pos 0 }
@@ -44,26 +45,11 @@ start node identity saves journal =
 
 -- "82h takes 1017 and 1800 from the stored settings"
 abbrev pub communicating : State → State
-communicating u = record {
-  node = u .node;
-  identity = u .identity;
-  network = preOperational;
-  saves = u .saves;
-  running = record {
-    heartbeat = u .saves .stored .heartbeat;
-    pdo = u .saves .stored .pdo;
-    resolution = u .running .resolution;
-    x = u .running .x;
-    y = u .running .y;
-  };
-  errors = u .errors;
-  heartbeat = 0;
-  pdo = noCounts;
-  transfers = noTransfers;
-  x = u .x;
-  y = u .y;
-  journal = u .journal;
-}
+communicating u =
+    let t = u .running in
+    let stored = u .saves .stored in
+    let running : Settings = record { heartbeat = stored .heartbeat; pdo = stored .pdo; resolution = t .resolution; x = t .x; y = t .y } in
+    moved preOperational running (u .errors) 0 noCounts noTransfers (u .x) (u .y) u
 
 -- "01h Operational, 02h Stopped, 80h Pre-Operational, 81h, 82h resets; a different command is ignored"; "Start zeroes the PDO's elapsed and SYNC counts"
 unfoldable pub onCommand : ℕ → State → Result
