@@ -14,13 +14,13 @@ use Rattle.rules.specs.Numbers.{twoAt, fourAt}
 use Rattle.rules.specs.Objects.{find}
 use Rattle.rules.specs.Ranges.{errorsOk, axisOk, inRange}
 use Rattle.rules.specs.Reads.{angleRead}
-use Rattle.rules.specs.ReadsWrites.{Value, object, journal, same, reads, writes}
 use Rattle.rules.specs.Replies.{reply}
 use Rattle.rules.specs.Requests.{commandOf}
 use Rattle.rules.specs.Settings.{inTable}
 use Rattle.rules.specs.Writes.{lengthCheck, roomCheck}
 use Rattle.interleaving.specs.Demand3.{FramesApart, Each}
 use Rattle.interleaving.specs.Examples.{device, writeType, writeTimer, load, readAngle, readFilled, cutShort, twos, WriteAndRead, AnswersDiffer, JournalsDiffer}
+use Rattle.interleaving.specs.ReadsWrites.{Value, object, journal, same, reads, writes}
 use Rattle.interleaving.specs.Runs.{RunFrame, Answer, only, endOf, answers}
 
 -- what a request reads or writes

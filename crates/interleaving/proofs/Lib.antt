@@ -1,3 +1,9 @@
+pub mod Cells
+pub mod Acts
+pub mod Uses
+pub mod Depends
+pub mod Leaves
+pub mod Diamond
 pub mod Sorted
 pub mod Demand3
 pub mod Constant

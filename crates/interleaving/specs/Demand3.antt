@@ -8,8 +8,8 @@ use lib.Dec.{T, eqb}
 use Rattle.rules.specs.declared.events.Frame.{Frame}
 use Rattle.rules.specs.declared.objects.Channel.the-variants.{One, Two}
 use Rattle.rules.specs.Events.{NotRefused, event}
-use Rattle.rules.specs.ReadsWrites.{Apart}
 use Rattle.rules.specs.State.{State}
+use Rattle.interleaving.specs.ReadsWrites.{Apart}
 use Rattle.interleaving.specs.Runs.{Sensor, RunFrame, Turn, Interleaves, endOf, answers}
 
 -- "requests of 8 bytes only", "Remote frames … do nothing": any other frame reads and writes nothing

@@ -1,3 +1,6 @@
+-- What a request reads and writes
+pub mod ReadsWrites
+-- Demand 3
 pub mod Runs
 pub mod Demand3
 pub mod Examples
