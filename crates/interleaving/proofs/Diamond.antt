@@ -23,7 +23,7 @@ use Rattle.interleaving.proofs.Cells.{Cell, running, errors, kept, hear
 use Rattle.interleaving.proofs.Depends.{own, outcome-alike, stores-alike}
 use Rattle.interleaving.proofs.Leaves.{outcome-left}
 use Rattle.interleaving.proofs.Uses.{sameChannel, objectOf, names, isWrite, usesOf, altersOf}
-use Rattle.interleaving.specs.ReadsWrites.{object, journal, same, is, reads, writes, writesBy, Clear, Apart}
+use Rattle.interleaving.specs.ReadsWrites.{object, journal, one, covers, is, reads, writes, writesBy, Clear, Apart}
 
 -- whoever empties the error list writes all of 1003, and names one object there
 module _ (i s : ℕ) where
@@ -31,7 +31,7 @@ module _ (i s : ℕ) where
   emptier-writes (Write given) t n =
       let p = parts (eqb i 0x1003) (eqb s 0) t in
       subst₂ (λ (j m : ℕ). T (writesBy (Write given) j m (object 0x1003 n))) (sym (eqb→eq i 0x1003 (p .0))) (sym (eqb→eq s 0 (p .1)))
-      (or-right (same (object 0x1003 n) (object 0x1003 0)) true tt)
+      (or-right (covers (one 0x1003 0) (object 0x1003 n)) true tt)
   emptier-writes Read t n = absurd t
   emptier-writes (Segment toggle) t n = absurd t
   emptier-writes End t n = absurd t

@@ -20,7 +20,7 @@ use Rattle.rules.specs.Settings.{inTable}
 use Rattle.rules.specs.Writes.{lengthCheck, roomCheck}
 use Rattle.interleaving.specs.Demand3.{FramesApart, Each}
 use Rattle.interleaving.specs.Examples.{device, writeType, writeTimer, load, readAngle, readFilled, cutShort, twos, WriteAndRead, AnswersDiffer, JournalsDiffer}
-use Rattle.interleaving.specs.ReadsWrites.{Value, object, journal, same, reads, writes}
+use Rattle.interleaving.specs.ReadsWrites.{Value, object, journal, one, theJournal, covers, reads, writes}
 use Rattle.interleaving.specs.Runs.{RunFrame, Answer, only, endOf, answers}
 
 -- what a request reads or writes
@@ -29,7 +29,7 @@ used f v = reads (f .bytes) v || writes (f .bytes) v
 
 -- a write of one object, and one of the journal too, spares a request that uses neither
 module _ (f : RunFrame) (i s : ℕ) (free : T (used f (object i s)) → ⊥) where
-  there : (j t : ℕ) → T (same (object j t) (object i s) || false) → T (used f (object j t)) → T (used f (object i s))
+  there : (j t : ℕ) → T (covers (one i s) (object j t) || false) → T (used f (object j t)) → T (used f (object i s))
   there j t p u =
       let n = parts (eqb j i) (eqb t s) (alone (eqb j i && eqb t s) p) in
       subst₂ (λ (i s : ℕ). T (used f (object i s))) (eqb→eq j i (n .0)) (eqb→eq t s (n .1)) u
@@ -38,11 +38,11 @@ module _ (f : RunFrame) (i s : ℕ) (free : T (used f (object i s)) → ⊥) whe
       alone true p = tt
       alone false p = p
 
-  object-spares : (v : Value) → T (same v (object i s) || false) → T (used f v) → ⊥
+  object-spares : (v : Value) → T (covers (one i s) v || false) → T (used f v) → ⊥
   object-spares (object j t) p u = free (there j t p u)
   object-spares journal p u = p
 
-  journal-spares : (T (used f journal) → ⊥) → (v : Value) → T (same v (object i s) || same v journal) → T (used f v) → ⊥
+  journal-spares : (T (used f journal) → ⊥) → (v : Value) → T (covers (one i s) v || (covers theJournal v || false)) → T (used f v) → ⊥
   journal-spares h (object j t) p u = free (there j t p u)
   journal-spares h journal p u = h u
 

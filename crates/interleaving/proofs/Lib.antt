@@ -1,3 +1,4 @@
+pub mod Table
 pub mod Cells
 pub mod Acts
 pub mod Uses

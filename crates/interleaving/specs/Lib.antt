@@ -1,5 +1,6 @@
 -- What a request reads and writes
 pub mod ReadsWrites
+pub mod Table
 -- Demand 3
 pub mod Runs
 pub mod Demand3

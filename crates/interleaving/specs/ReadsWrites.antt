@@ -1,69 +1,98 @@
 -- What a request reads and writes, "by its first four bytes; an object here is one index with one subindex".
-use mathlib.Core.Bool.{Bool, true, false, _&&_, _||_}
-use mathlib.Core.List.{List, [], _∷_}
+use mathlib.Core.Bool.{Bool, true, false, cond, _&&_, _||_}
+use mathlib.Core.List.{List, [], _∷_, map}
 use Prim.Native.Nat.{ℕ}
 use lib.Dec.{T, eqb}
 use Rattle.rules.specs.declared.requests.Command.{Command}
 use Rattle.rules.specs.declared.requests.Command.the-variants.{Write, Read, Segment, End, Unknown}
+use Rattle.rules.specs.Objects.{settingRow}
 use Rattle.rules.specs.Requests.{command, index, subindex}
+use Rattle.rules.specs.Settings.{settings}
 
 -- what is read and written: an object, by its numbers, or the journal
 pub data Value : Type 0 where
   object : ℕ → ℕ → Value
   journal : Value
 
-abbrev pub same : Value → Value → Bool
-same (object i s) (object j t) = eqb i j && eqb s t
-same (object i s) journal = false
-same journal (object j t) = false
-same journal journal = true
-
-abbrev pub among : Value → List Value → Bool
-among v [] = false
-among v (w ∷ ws) = same v w || among v ws
-
--- all of one index
-abbrev pub under : ℕ → Value → Bool
-under j (object i s) = eqb i j
-under j journal = false
+-- as the table names it: one object, all of an index whatever its subindex, the journal
+pub data Named : Type 0 where
+  one : ℕ → ℕ → Named
+  all : ℕ → Named
+  theJournal : Named
 
 abbrev pub is : ℕ → ℕ → ℕ → ℕ → Bool
 is i s j t = eqb i j && eqb s t
 
+abbrev pub covers : Named → Value → Bool
+covers (one j t) (object i s) = is i s j t
+covers (one j t) journal = false
+covers (all j) (object i s) = eqb i j
+covers (all j) journal = false
+covers theJournal (object i s) = false
+covers theJournal journal = true
+
+abbrev pub among : Value → List Named → Bool
+among v [] = false
+among v (n ∷ ns) = covers n v || among v ns
+
+-- an object's line in the table: what goes with it
+pub data Line : Type 0 where
+  line : ℕ → ℕ → List Named → Line
+
+-- nothing, where it has no line
+abbrev pub also : ℕ → ℕ → List Line → List Named
+also i s [] = []
+also i s (line j t ns ∷ lines) = cond (is i s j t) ns (also i s lines)
+
+-- "6010 also reads 6000, 6011, 6013, 6014; Y likewise"; "2100 reads the journal"
+abbrev pub readReads : List Line
+readReads =
+    line 0x6010 0 (one 0x6000 0 ∷ one 0x6011 0 ∷ one 0x6013 0 ∷ one 0x6014 0 ∷ []) ∷
+    line 0x6020 0 (one 0x6000 0 ∷ one 0x6021 0 ∷ one 0x6023 0 ∷ one 0x6024 0 ∷ []) ∷
+    line 0x2100 0 (theJournal ∷ []) ∷ []
+
 -- "every setting (all that a block carries, wherever it lies there)"
-abbrev pub everySetting : List Value
-everySetting =
-    object 0x1017 0 ∷ object 0x1800 1 ∷ object 0x1800 2 ∷ object 0x1800 5 ∷ object 0x6000 0 ∷ object 0x6011 0 ∷ object 0x6021 0 ∷
-    object 0x6012 0 ∷ object 0x6013 0 ∷ object 0x6014 0 ∷ object 0x6022 0 ∷ object 0x6023 0 ∷ object 0x6024 0 ∷ []
+abbrev pub everySetting : List Named
+everySetting = map (λ s. one (settingRow s .index) (settingRow s .subindex)) settings
 
--- "Read: its object; 6010 also reads 6000, 6011, 6013, 6014; Y likewise"; "2100 reads the journal"
--- "Write: … 6012 also reads 6000, 6011, 6014 …; 1010:1 reads every setting"; "Others: nothing"
+-- "6012 also reads 6000, 6011, 6014", Y likewise; "1010:1 reads every setting"
+abbrev pub writeReads : List Line
+writeReads =
+    line 0x6012 0 (one 0x6000 0 ∷ one 0x6011 0 ∷ one 0x6014 0 ∷ []) ∷
+    line 0x6022 0 (one 0x6000 0 ∷ one 0x6021 0 ∷ one 0x6024 0 ∷ []) ∷
+    line 0x1010 1 everySetting ∷ []
+
+-- 6012 "also … writes 6013", Y likewise; "1003:0 all of 1003; 1010:1 … writes the journal; 1011:1 writes the journal"
+abbrev pub writeWrites : List Line
+writeWrites =
+    line 0x6012 0 (one 0x6013 0 ∷ []) ∷
+    line 0x6022 0 (one 0x6023 0 ∷ []) ∷
+    line 0x1003 0 (all 0x1003 ∷ []) ∷
+    line 0x1010 1 (theJournal ∷ []) ∷
+    line 0x1011 1 (theJournal ∷ []) ∷ []
+
+-- "Read: its object", and what its line says; "Others: nothing"
+abbrev pub readsOf : Command → ℕ → ℕ → List Named
+readsOf Read i s = one i s ∷ also i s readReads
+readsOf (Write given) i s = also i s writeReads
+readsOf (Segment toggle) i s = []
+readsOf End i s = []
+readsOf Unknown i s = []
+
+-- "Write: its object"
+abbrev pub writesOf : Command → ℕ → ℕ → List Named
+writesOf Read i s = []
+writesOf (Write given) i s = one i s ∷ also i s writeWrites
+writesOf (Segment toggle) i s = []
+writesOf End i s = []
+writesOf Unknown i s = []
+
+-- a value that a request reads, and one that it writes
 abbrev pub readsBy : Command → ℕ → ℕ → Value → Bool
-readsBy Read i s v =
-    same v (object i s) ||
-    (is i s 0x6010 0 && among v (object 0x6000 0 ∷ object 0x6011 0 ∷ object 0x6013 0 ∷ object 0x6014 0 ∷ []) ||
-    is i s 0x6020 0 && among v (object 0x6000 0 ∷ object 0x6021 0 ∷ object 0x6023 0 ∷ object 0x6024 0 ∷ []) ||
-    is i s 0x2100 0 && same v journal)
-readsBy (Write given) i s v =
-    is i s 0x6012 0 && among v (object 0x6000 0 ∷ object 0x6011 0 ∷ object 0x6014 0 ∷ []) ||
-    is i s 0x6022 0 && among v (object 0x6000 0 ∷ object 0x6021 0 ∷ object 0x6024 0 ∷ []) ||
-    is i s 0x1010 1 && among v everySetting
-readsBy (Segment toggle) i s v = false
-readsBy End i s v = false
-readsBy Unknown i s v = false
+readsBy k i s v = among v (readsOf k i s)
 
--- "Write: its object; 6012 also … writes 6013; 1003:0 all of 1003; 1010:1 … writes the journal; 1011:1 writes the journal"
 abbrev pub writesBy : Command → ℕ → ℕ → Value → Bool
-writesBy (Write given) i s v =
-    same v (object i s) ||
-    (is i s 0x6012 0 && same v (object 0x6013 0) ||
-    is i s 0x6022 0 && same v (object 0x6023 0) ||
-    is i s 0x1003 0 && under 0x1003 v ||
-    (is i s 0x1010 1 || is i s 0x1011 1) && same v journal)
-writesBy Read i s v = false
-writesBy (Segment toggle) i s v = false
-writesBy End i s v = false
-writesBy Unknown i s v = false
+writesBy k i s v = among v (writesOf k i s)
 
 abbrev pub reads : List ℕ → Value → Bool
 reads request v = readsBy (command request) (index request) (subindex request) v
