@@ -1,11 +1,8 @@
--- The examples, computed.
-use mathlib.Core.Path.{_≡_, refl, ap, subst₂}
+-- The example, computed.
+use mathlib.Core.Path.{refl, subst₂}
 use mathlib.Core.Bool.{Bool, true, false, _&&_, _||_}
-use mathlib.Core.List.{List, [], _∷_}
 use Prim.Native.Nat.{ℕ}
-use native.Mathlib.Omega.{arith}
 use lib.Dec.{T, eqb, eqb→eq}
-use lib.ListN.{getD}
 use Rattle.laws.proofs.Bools.{parts}
 use Rattle.rules.specs.Angle.{q, sum, angle}
 use Rattle.rules.specs.Block.{body, block}
@@ -19,9 +16,10 @@ use Rattle.rules.specs.Requests.{commandOf}
 use Rattle.rules.specs.Settings.{inTable}
 use Rattle.rules.specs.Writes.{lengthCheck, roomCheck}
 use Rattle.interleaving.specs.Demand3.{FramesApart, Each}
-use Rattle.interleaving.specs.Examples.{device, writeType, writeTimer, load, readAngle, readFilled, cutShort, twos, WriteAndRead, AnswersDiffer, JournalsDiffer}
+use Rattle.interleaving.specs.Device.{device, load}
+use Rattle.interleaving.specs.Examples.{writeType, writeTimer, readAngle, readFilled, cutShort, twos, WriteAndRead}
 use Rattle.interleaving.specs.ReadsWrites.{Value, object, journal, one, theJournal, covers, reads, writes}
-use Rattle.interleaving.specs.Runs.{RunFrame, Answer, only, endOf, answers}
+use Rattle.interleaving.specs.Runs.{RunFrame, only, endOf, answers}
 
 -- what a request reads or writes
 abbrev used : RunFrame → Value → Bool
@@ -67,18 +65,3 @@ angle-apart =
 pub write-and-read : WriteAndRead
 unfolding only endOf answers event device inRange inTable errorsOk axisOk onFrame onService commandOf twoAt fourAt find lengthCheck roomCheck body block reply angleRead angle sum q
 write-and-read = ((refl, refl), (type-apart, (angle-apart, tt)), (refl, refl), refl, refl, refl, refl)
-
--- the fifth byte of the first answer
-fifth : List Answer → ℕ
-fifth [] = 0
-fifth ((n, []) ∷ l) = 0
-fifth ((n, f ∷ fs) ∷ l) = getD (f .bytes) 4 0
-
-pub answers-differ : AnswersDiffer
-unfolding fifth answers event device inRange inTable errorsOk axisOk onFrame onService commandOf twoAt fourAt find lengthCheck reply angleRead angle sum q
-answers-differ = (λ h. h tt tt .0 (object 0x6000 0) tt tt, λ e. let z : _≡_ {A = ℕ} 0x39 0xD2 = ap fifth e in omega arith)
-
--- a block's fifth byte is its channel
-pub journals-differ : JournalsDiffer
-unfolding endOf event device inRange inTable errorsOk axisOk onFrame onService commandOf twoAt fourAt find lengthCheck roomCheck body block reply
-journals-differ = (λ h. h tt tt .0 journal tt tt, λ e. let z : _≡_ {A = ℕ} 1 2 = ap (λ (j : List ℕ). getD j 4 0) e in omega arith)

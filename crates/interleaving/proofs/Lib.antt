@@ -9,3 +9,4 @@ pub mod Sorted
 pub mod Demand3
 pub mod Constant
 pub mod Examples
+pub mod Order

@@ -1,5 +1,5 @@
 -- The table row by row, computed over all objects; and what is no object has no line.
-use mathlib.Core.Path.{_≡_, refl, subst₂}
+use mathlib.Core.Path.{_≡_, refl}
 use mathlib.Core.Bool.{Bool, true, false, _&&_}
 use mathlib.Core.List.{List, [], _∷_}
 use Prim.Native.Nat.{ℕ}
