@@ -30,7 +30,7 @@ use Rattle.rules.specs.Objects.{rowOf, settingRow, objectAt}
 use Rattle.rules.specs.Reads.{readOf, settingValue}
 use Rattle.rules.specs.Requests.{command, index, subindex, valueFor}
 use Rattle.rules.specs.Service.{onCommand, onRead, onSegment, outcome, served, silent, stores}
-use Rattle.rules.specs.Settings.{factory, setting, settingsOf}
+use Rattle.rules.specs.Settings.{factory, settingsOf}
 use Rattle.rules.specs.State.{State}
 use Rattle.rules.specs.Writes.{roomCheck, zeroedBy, zeroChange, settingCheck, stateCheck, writeCheck, settingChange, change}
 use Rattle.interleaving.proofs.Cells.{Cell, running, errors, kept, transfer, axis, rest, get}
@@ -65,10 +65,20 @@ module _ (c : Channel) (u w : State) where
       (u .node ≡ w .node) × (u .identity ≡ w .identity) × (u .network ≡ w .network) × (u .saves .blocks ≡ w .saves .blocks) × (u .saves .spoiled ≡ w .saves .spoiled)
   rest-alike t = (λ i. t i .node, λ i. t i .identity, λ i. t i .network, λ i. t i .blocks, λ i. t i .spoiled)
 
+  -- a setting that a command on an object uses
+  abbrev Uses : Command → Object → Setting → Type 0
+  Uses k o s = T (uses c k (rowOf o .index) (rowOf o .subindex) (running s))
+
   -- "6010 also reads 6000, 6011, 6013, 6014; Y likewise"
+  angle-uses : (a : Axis) →
+      Uses Read (Angle a) Resolution × Uses Read (Angle a) (Operating a) × Uses Read (Angle a) (Offset a) × Uses Read (Angle a) (Differential a)
+  angle-uses X = (tt, tt, tt, tt)
+  angle-uses Y = (tt, tt, tt, tt)
+
   angle-alike : (a : Axis) → For Read (Angle a) → readOf (Angle a) u ≡ readOf (Angle a) w
-  angle-alike X h = cc (h (axis X) tt, h (running Resolution) tt, h (running (Operating X)) tt, h (running (Offset X)) tt, h (running (Differential X)) tt)
-  angle-alike Y h = cc (h (axis Y) tt, h (running Resolution) tt, h (running (Operating Y)) tt, h (running (Offset Y)) tt, h (running (Differential Y)) tt)
+  angle-alike a h =
+      let t = angle-uses a in
+      cc (h (axis a) tt, h (running Resolution) (t .0), h (running (Operating a)) (t .1), h (running (Offset a)) (t .2), h (running (Differential a)) (t .3))
 
   read-alike : (o : Object) → For Read o → readOf o u ≡ readOf o w
   read-alike (Const f) h = let t = rest-alike (h rest tt) in cc (t .0, t .1, t .2, t .3, t .4, h (axis X) tt, h (axis Y) tt)
@@ -86,9 +96,17 @@ module _ (c : Channel) (u w : State) where
 
   module _ (given : ℕ) where
     -- "6012 also reads 6000, 6011, 6014"
+    abbrev PresetUses : Axis → Setting → Type 0
+    PresetUses a s = Uses (Write given) (Of (Preset a)) s
+
+    preset-uses : (a : Axis) → PresetUses a Resolution × PresetUses a (Operating a) × PresetUses a (Differential a)
+    preset-uses X = (tt, tt, tt)
+    preset-uses Y = (tt, tt, tt)
+
     zeroed-alike : (a : Axis) (v : ℕ) → For (Write given) (Of (Preset a)) → zeroedBy a v u ≡ zeroedBy a v w
-    zeroed-alike X v h = cc (h (axis X) tt, h (running Resolution) tt, h (running (Operating X)) tt, h (running (Differential X)) tt)
-    zeroed-alike Y v h = cc (h (axis Y) tt, h (running Resolution) tt, h (running (Operating Y)) tt, h (running (Differential Y)) tt)
+    zeroed-alike a v h =
+        let t = preset-uses a in
+        cc (h (axis a) tt, h (running Resolution) (t .0), h (running (Operating a)) (t .1), h (running (Differential a)) (t .2))
 
     setting-alike : (s : Setting) (v : ℕ) → For (Write given) (Of s) → (settingCheck s v u ≡ settingCheck s v w) × (settingChange s v u ≡ settingChange s v w)
     setting-alike Heartbeat v h = (refl, refl)
@@ -100,20 +118,20 @@ module _ (c : Channel) (u w : State) where
     setting-alike (Differential a) v h = (refl, refl)
 
     -- "1010:1 reads every setting"
-    saved-alike : For (Write given) Save → (s : Setting) → setting s (u .running) ≡ setting s (w .running)
-    saved-alike h Heartbeat = h (running Heartbeat) tt
-    saved-alike h (Pdo First On) = h (running (Pdo First On)) tt
-    saved-alike h (Pdo First Transmission) = h (running (Pdo First Transmission)) tt
-    saved-alike h (Pdo First Timer) = h (running (Pdo First Timer)) tt
-    saved-alike h Resolution = h (running Resolution) tt
-    saved-alike h (Operating X) = h (running (Operating X)) tt
-    saved-alike h (Operating Y) = h (running (Operating Y)) tt
-    saved-alike h (Preset X) = h (running (Preset X)) tt
-    saved-alike h (Preset Y) = h (running (Preset Y)) tt
-    saved-alike h (Offset X) = h (running (Offset X)) tt
-    saved-alike h (Offset Y) = h (running (Offset Y)) tt
-    saved-alike h (Differential X) = h (running (Differential X)) tt
-    saved-alike h (Differential Y) = h (running (Differential Y)) tt
+    save-uses : (s : Setting) → Uses (Write given) Save s
+    save-uses Heartbeat = tt
+    save-uses (Pdo First On) = tt
+    save-uses (Pdo First Transmission) = tt
+    save-uses (Pdo First Timer) = tt
+    save-uses Resolution = tt
+    save-uses (Operating X) = tt
+    save-uses (Operating Y) = tt
+    save-uses (Preset X) = tt
+    save-uses (Preset Y) = tt
+    save-uses (Offset X) = tt
+    save-uses (Offset Y) = tt
+    save-uses (Differential X) = tt
+    save-uses (Differential Y) = tt
 
     room-alike : get rest u ≡ get rest w → get kept u ≡ get kept w →
         roomCheck (u .saves .spoiled) (u .saves .filled) (u .saves .blocks) ≡ roomCheck (w .saves .spoiled) (w .saves .filled) (w .saves .blocks)
@@ -152,7 +170,7 @@ module _ (c : Channel) (u w : State) where
     change-stores ErrorCount v z h = refl
     change-stores (ErrorEntry n) v z h = refl
     change-stores Name v z h = refl
-    change-stores Save v z h = λ i. settingsOf (λ s. saved-alike h s i)
+    change-stores Save v z h = λ i. settingsOf (λ s. h (running s) (save-uses s) i)
     change-stores Load v z h = refl
     change-stores Filled v z h = refl
     change-stores (Angle a) v z h = refl

@@ -8,5 +8,7 @@ pub mod Diamond
 pub mod Sorted
 pub mod Demand3
 pub mod Constant
+pub mod Each
+pub mod Apart
 pub mod Examples
 pub mod Order

@@ -5,7 +5,7 @@ use mathlib.Core.List.{List, [], _∷_, _++_, map}
 use Prim.Native.Nat.{ℕ}
 use lib.Dec.{eqb}
 use borrow.Author.Tests.{eq-eqb}
-use Rattle.laws.proofs.Bools.{no, both, left, right}
+use Rattle.laws.proofs.Bools.{no, both}
 use Rattle.rules.specs.declared.events.Frame.{Frame}
 use Rattle.rules.specs.declared.objects.Channel.the-variants.{One, Two}
 use Rattle.rules.specs.declared.settings.Settings.{Settings}
@@ -17,12 +17,13 @@ use Rattle.rules.specs.Ranges.{errorsOk, axisOk, inRange}
 use Rattle.rules.specs.Reads.{angleRead, entryRead, settingValue}
 use Rattle.rules.specs.Replies.{reply}
 use Rattle.rules.specs.Requests.{commandOf}
-use Rattle.rules.specs.Settings.{every, inTable, setting, settings}
+use Rattle.rules.specs.Settings.{inTable, setting, settings}
 use Rattle.rules.specs.State.{State}
 use Rattle.rules.specs.Writes.{lengthCheck, roomCheck}
 use Rattle.interleaving.proofs.Demand3.{runs, demand3}
+use Rattle.interleaving.proofs.Each.{each}
 use Rattle.interleaving.proofs.Sorted.{endIn, answersIn}
-use Rattle.interleaving.specs.Demand3.{Each, Alike}
+use Rattle.interleaving.specs.Demand3.{Alike}
 use Rattle.interleaving.specs.Device.{device}
 use Rattle.interleaving.specs.Order.{Pair, pair, OrderMatters, NotApart, pairs, NoLineIdle}
 use Rattle.interleaving.specs.Runs.{Turn, turn, Answer, only}
@@ -78,10 +79,6 @@ module _ (u : State) (h : NotRefused u) where
         no (rw same at e),
   )
 
-  each-matters : (l : List Pair) → every (differs u) l ≡ true → Each (OrderMatters u) l
-  each-matters [] e = tt
-  each-matters (p ∷ l) e = (order-matters p (left (differs u p) _ e), each-matters l (right (differs u p) _ e))
-
 pub not-apart : NotApart
 unfolding only
 not-apart u f g m apart = m .1 (demand3 u (m .0) (f ∷ []) (g ∷ []) ((apart, tt), tt) _ _ (refl, refl) (refl, refl))
@@ -92,4 +89,4 @@ fine = (refl, refl)
 
 pub no-line-idle : NoLineIdle
 unfolding endIn answersIn device commandOf twoAt fourAt find lengthCheck roomCheck reply angleRead entryRead settingValue angle sum q zeroed offset
-no-line-idle = each-matters device fine pairs refl
+no-line-idle = each (differs device) (OrderMatters device) (order-matters device fine) pairs refl
