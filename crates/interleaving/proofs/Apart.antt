@@ -5,11 +5,11 @@ use mathlib.Core.List.{List, [], _∷_}
 use Prim.Native.Nat.{ℕ}
 use lib.Dec.{T, eqb, eqb→eq}
 use Rattle.laws.proofs.Bools.{no, left, right, parts}
-use Rattle.rules.specs.Requests.{command, index, subindex}
 use Rattle.rules.specs.Settings.{every}
 use Rattle.interleaving.proofs.Each.{each}
+use Rattle.interleaving.proofs.Members.{covers, among, reads, writes, is-clear}
 use Rattle.interleaving.specs.Demand3.{isRequest, FramesApart, Each, RunsApart}
-use Rattle.interleaving.specs.ReadsWrites.{Value, object, journal, Named, one, all, theJournal, covers, among, reads, writes, writesOf, Clear}
+use Rattle.interleaving.specs.ReadsWrites.{Value, object, journal, Named, one, all, theJournal, allWritten, Clear}
 use Rattle.interleaving.specs.Runs.{RunFrame}
 
 -- what a request reads or writes
@@ -45,10 +45,10 @@ module _ (b : List ℕ) where
       neither false t f g h = g h
 
 abbrev clear : List ℕ → List ℕ → Bool
-clear a b = every (spared b) (writesOf (command a) (index a) (subindex a))
+clear a b = every (spared b) (allWritten a)
 
-is-clear : (a b : List ℕ) → clear a b ≡ true → Clear a b
-is-clear a b e v w u = all-spared b (writesOf (command a) (index a) (subindex a)) e v w u
+clear-by : (a b : List ℕ) → clear a b ≡ true → Clear a b
+clear-by a b e = is-clear a b (all-spared b (allWritten a) e)
 
 abbrev apart : RunFrame → RunFrame → Bool
 apart f g = not (isRequest f && isRequest g) || (clear (f .bytes) (g .bytes) && clear (g .bytes) (f .bytes))
@@ -58,7 +58,7 @@ frames-apart f g e p q =
     let there = clear (f .bytes) (g .bytes) in
     let back = clear (g .bytes) (f .bytes) in
     let h = of-requests (isRequest f) (isRequest g) (there && back) e p q in
-    (is-clear (f .bytes) (g .bytes) (left there back h), is-clear (g .bytes) (f .bytes) (right there back h))
+    (clear-by (f .bytes) (g .bytes) (left there back h), clear-by (g .bytes) (f .bytes) (right there back h))
   where
     of-requests : (s t r : Bool) → not (s && t) || r ≡ true → T s → T t → r ≡ true
     of-requests true true r e p q = e

@@ -1,9 +1,9 @@
 -- A request's outcome depends on what the request reads and writes, on its channel's transfer and on what no request changes, alone.
 use mathlib.Core.Path.{_≡_, refl, ap, sym, _∙_, subst, subst₂}
-use mathlib.Core.Bool.{Bool, true, false, cond, _&&_, _||_}
+use mathlib.Core.Bool.{false, cond, _||_}
 use mathlib.Core.List.{List}
 use Prim.Native.Nat.{ℕ}
-use lib.Dec.{T, eqb, eqb-refl}
+use lib.Dec.{T}
 use Rattle.laws.proofs.Bools.{or-left, or-right}
 use Rattle.rules.proofs.EachOutcome.{each-outcome}
 use Rattle.rules.proofs.Named.{Names, named}
@@ -34,21 +34,15 @@ use Rattle.rules.specs.Settings.{factory, settingsOf}
 use Rattle.rules.specs.State.{State}
 use Rattle.rules.specs.Writes.{roomCheck, zeroedBy, zeroChange, settingCheck, stateCheck, writeCheck, settingChange, change}
 use Rattle.interleaving.proofs.Cells.{Cell, running, errors, kept, transfer, axis, rest, get}
+use Rattle.interleaving.proofs.Members.{covers, readsBy, writesBy, its-own}
 use Rattle.interleaving.proofs.Uses.{names, uses, usesOf}
-use Rattle.interleaving.specs.ReadsWrites.{object, one, covers, readsBy, writesBy}
+use Rattle.interleaving.specs.ReadsWrites.{object, one}
 
 -- two states alike in what a request uses
 abbrev pub Alike : Channel → Command → ℕ → ℕ → State → State → Type 0
 Alike c k i s u w = (cell : Cell) → T (uses c k i s cell) → get cell u ≡ get cell w
 
 -- whoever names an object reads or writes it
-its-own : (i s : ℕ) → T (covers (one i s) (object i s))
-its-own i s = and (eqb i i) (eqb s s) (eqb-refl i) (eqb-refl s)
-  where
-    and : (a b : Bool) → T a → T b → T (a && b)
-    and true b p q = q
-    and false b p q = p
-
 pub own : (k : Command) (i s : ℕ) → T (names k) → T (readsBy k i s (object i s) || writesBy k i s (object i s))
 own (Write given) i s t = or-right (readsBy (Write given) i s (object i s)) _ (or-left (covers (one i s) (object i s)) _ (its-own i s))
 own Read i s t = or-left (readsBy Read i s (object i s)) false (or-left (covers (one i s) (object i s)) _ (its-own i s))

@@ -22,8 +22,9 @@ use Rattle.interleaving.proofs.Acts.{act, after-acts}
 use Rattle.interleaving.proofs.Cells.{Cell, running, errors, kept, heartbeat, pdo, transfer, axis, rest, Content, get, stateOf, get-of, of-same}
 use Rattle.interleaving.proofs.Depends.{own, outcome-alike, stores-alike}
 use Rattle.interleaving.proofs.Leaves.{outcome-left}
+use Rattle.interleaving.proofs.Members.{covers, writesBy, reads, writes, never-meet}
 use Rattle.interleaving.proofs.Uses.{sameChannel, objectOf, names, isWrite, usesOf, altersOf}
-use Rattle.interleaving.specs.ReadsWrites.{object, journal, one, covers, is, reads, writes, writesBy, Clear, Apart}
+use Rattle.interleaving.specs.ReadsWrites.{object, journal, one, is, Clear, Apart}
 
 -- whoever empties the error list writes all of 1003, and names one object there
 module _ (i s : ℕ) where
@@ -93,13 +94,13 @@ next c request u = after c (outcome c request u) u
 module _ (c d : Channel) (two : T (sameChannel c d) → ⊥) (a b : List ℕ) (clear : Clear a b) where
   -- what b on d uses, a on c does not alter
   no-meeting : (cell : Cell) → T (usesOf d b cell) → T (altersOf c a cell) → ⊥
-  no-meeting (running t) p q = clear (objectOf t) q p
+  no-meeting (running t) p q = never-meet a b clear (objectOf t) q p
   no-meeting errors p q =
       let n = parts (names (command b)) (eqb (index b) 0x1003) p in
-      clear (object 0x1003 (subindex b)) (emptier-writes (index a) (subindex a) (command a) q (subindex b))
+      never-meet a b clear (object 0x1003 (subindex b)) (emptier-writes (index a) (subindex a) (command a) q (subindex b))
       (subst (λ (i : ℕ). T (reads b (object i (subindex b)) || writes b (object i (subindex b)))) (eqb→eq (index b) 0x1003 (n .1))
       (own (command b) (index b) (subindex b) (n .0)))
-  no-meeting kept p q = clear journal q p
+  no-meeting kept p q = never-meet a b clear journal q p
   no-meeting heartbeat p q = p
   no-meeting (pdo n) p q = p
   no-meeting (transfer e) p q = two-transfers c d e two p q

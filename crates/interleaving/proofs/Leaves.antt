@@ -36,8 +36,9 @@ use Rattle.rules.specs.State.{State}
 use Rattle.rules.specs.Writes.{zeroedBy, zeroChange, settingChange, change}
 use Rattle.interleaving.proofs.Acts.{onKept, act}
 use Rattle.interleaving.proofs.Cells.{Kept, Cell, running, errors, kept, heartbeat, pdo, transfer, axis, rest, Content}
+use Rattle.interleaving.proofs.Members.{writesBy}
 use Rattle.interleaving.proofs.Uses.{sameChannel, objectOf, isWrite, altersOf}
-use Rattle.interleaving.specs.ReadsWrites.{journal, is, writesBy}
+use Rattle.interleaving.specs.ReadsWrites.{journal, is}
 
 -- what a change leaves: of the settings, the error list and what only a save or a load changes, all that command and numbers do not write
 pub record Leaves (k : Command) (i s : ℕ) (e : Change) : Type 0 where

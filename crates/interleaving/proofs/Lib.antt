@@ -1,4 +1,5 @@
 pub mod Table
+pub mod Members
 pub mod Cells
 pub mod Acts
 pub mod Uses

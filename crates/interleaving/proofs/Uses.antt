@@ -11,7 +11,8 @@ use Rattle.rules.specs.declared.requests.Command.the-variants.{Write, Read, Seg
 use Rattle.rules.specs.Objects.{settingRow}
 use Rattle.rules.specs.Requests.{command, index, subindex}
 use Rattle.interleaving.proofs.Cells.{Cell, running, errors, kept, heartbeat, pdo, transfer, axis, rest}
-use Rattle.interleaving.specs.ReadsWrites.{Value, object, journal, is, readsBy, writesBy}
+use Rattle.interleaving.proofs.Members.{readsBy, writesBy}
+use Rattle.interleaving.specs.ReadsWrites.{Value, object, journal, is}
 
 abbrev pub sameChannel : Channel → Channel → Bool
 sameChannel One One = true

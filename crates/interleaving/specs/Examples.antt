@@ -1,4 +1,4 @@
--- Demand 3 is not empty: two runs that are apart, and write and read.
+-- Demand 3 is not empty: two runs that are apart, and write and read, one object on both channels.
 use mathlib.Core.Path.{_≡_}
 use mathlib.Core.Bool.{false}
 use mathlib.Core.List.{List, [], _∷_}
@@ -35,22 +35,23 @@ abbrev pub ones : List RunFrame
 ones = writeType ∷ readAngle ∷ []
 
 abbrev pub twos : List RunFrame
-twos = cutShort ∷ writeTimer ∷ load ∷ readFilled ∷ []
+twos = cutShort ∷ writeTimer ∷ load ∷ readFilled ∷ readAngle ∷ []
 
 abbrev pub turns : List Turn
-turns = turn Two cutShort ∷ turn One writeType ∷ turn Two writeTimer ∷ turn Two load ∷ turn One readAngle ∷ turn Two readFilled ∷ []
+turns = turn Two cutShort ∷ turn One writeType ∷ turn Two writeTimer ∷ turn Two load ∷ turn One readAngle ∷ turn Two readFilled ∷ turn Two readAngle ∷ []
 
 -- channel 1 gets: written, and an angle of 7 steps
 abbrev pub toOne : List Answer
 toOne = reply 0x581 (0x60 ∷ 0x00 ∷ 0x18 ∷ 2 ∷ 0 ∷ 0 ∷ 0 ∷ 0 ∷ []) ∷ reply 0x581 (0x4B ∷ 0x10 ∷ 0x60 ∷ 0 ∷ 7 ∷ 0 ∷ 0 ∷ 0 ∷ []) ∷ []
 
--- channel 2 gets: nothing, written, loaded, and one filled block
+-- channel 2 gets: nothing, written, loaded, one filled block, and the angle
 abbrev pub toTwo : List Answer
 toTwo =
     (0, []) ∷
     reply 0x6B1 (0x60 ∷ 0x00 ∷ 0x18 ∷ 5 ∷ 0 ∷ 0 ∷ 0 ∷ 0 ∷ []) ∷
     reply 0x6B1 (0x60 ∷ 0x11 ∷ 0x10 ∷ 1 ∷ 0 ∷ 0 ∷ 0 ∷ 0 ∷ []) ∷
-    reply 0x6B1 (0x4B ∷ 0x00 ∷ 0x21 ∷ 0 ∷ 1 ∷ 0 ∷ 0 ∷ 0 ∷ []) ∷ []
+    reply 0x6B1 (0x4B ∷ 0x00 ∷ 0x21 ∷ 0 ∷ 1 ∷ 0 ∷ 0 ∷ 0 ∷ []) ∷
+    reply 0x6B1 (0x4B ∷ 0x10 ∷ 0x60 ∷ 0 ∷ 7 ∷ 0 ∷ 0 ∷ 0 ∷ []) ∷ []
 
 -- demand 3 speaks of them, both write and read, and all of it is done
 abbrev pub WriteAndRead : Type 0

@@ -1,8 +1,10 @@
 -- What a request reads and writes, "by its first four bytes; an object here is one index with one subindex".
-use mathlib.Core.Bool.{Bool, true, false, cond, _&&_, _||_}
+use mathlib.Core.Path.{_≡_}
+use mathlib.Core.Bool.{Bool, cond, _&&_}
 use mathlib.Core.List.{List, [], _∷_, map}
+use mathlib.Core.Logic.{_⊎_}
 use Prim.Native.Nat.{ℕ}
-use lib.Dec.{T, eqb}
+use lib.Dec.{eqb}
 use Rattle.rules.specs.declared.requests.Command.{Command}
 use Rattle.rules.specs.declared.requests.Command.the-variants.{Write, Read, Segment, End, Unknown}
 use Rattle.rules.specs.Objects.{settingRow}
@@ -20,24 +22,21 @@ pub data Named : Type 0 where
   all : ℕ → Named
   theJournal : Named
 
-abbrev pub is : ℕ → ℕ → ℕ → ℕ → Bool
-is i s j t = eqb i j && eqb s t
+abbrev pub Is : Named → Value → Type 0
+Is (one i s) v = v ≡ object i s
+Is (all i) v = (s : ℕ) × (v ≡ object i s)
+Is theJournal v = v ≡ journal
 
-abbrev pub covers : Named → Value → Bool
-covers (one j t) (object i s) = is i s j t
-covers (one j t) journal = false
-covers (all j) (object i s) = eqb i j
-covers (all j) journal = false
-covers theJournal (object i s) = false
-covers theJournal journal = true
-
-abbrev pub among : Value → List Named → Bool
-among v [] = false
-among v (n ∷ ns) = covers n v || among v ns
+abbrev pub In : List Named → Value → Type 0
+In [] v = ⊥
+In (n ∷ ns) v = Is n v ⊎ In ns v
 
 -- an object's line in the table: what goes with it
 pub data Line : Type 0 where
   line : ℕ → ℕ → List Named → Line
+
+abbrev pub is : ℕ → ℕ → ℕ → ℕ → Bool
+is i s j t = eqb i j && eqb s t
 
 -- nothing, where it has no line
 abbrev pub also : ℕ → ℕ → List Line → List Named
@@ -87,22 +86,16 @@ writesOf (Segment toggle) i s = []
 writesOf End i s = []
 writesOf Unknown i s = []
 
--- a value that a request reads, and one that it writes
-abbrev pub readsBy : Command → ℕ → ℕ → Value → Bool
-readsBy k i s v = among v (readsOf k i s)
+-- "By its first four bytes"
+abbrev pub allRead : List ℕ → List Named
+allRead request = readsOf (command request) (index request) (subindex request)
 
-abbrev pub writesBy : Command → ℕ → ℕ → Value → Bool
-writesBy k i s v = among v (writesOf k i s)
-
-abbrev pub reads : List ℕ → Value → Bool
-reads request v = readsBy (command request) (index request) (subindex request) v
-
-abbrev pub writes : List ℕ → Value → Bool
-writes request v = writesBy (command request) (index request) (subindex request) v
+abbrev pub allWritten : List ℕ → List Named
+allWritten request = writesOf (command request) (index request) (subindex request)
 
 -- a "writes what … the other reads or writes": never
 abbrev pub Clear : List ℕ → List ℕ → Type 0
-Clear a b = (v : Value) → T (writes a v) → T (reads b v || writes b v) → ⊥
+Clear a b = (v : Value) → In (allWritten a) v → ¬ (In (allRead b) v ⊎ In (allWritten b) v)
 
 abbrev pub Apart : List ℕ → List ℕ → Type 0
 Apart a b = Clear a b × Clear b a
