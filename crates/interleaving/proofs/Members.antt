@@ -2,7 +2,7 @@
 use mathlib.Core.Path.{refl, ap, ap₂, sym, subst}
 use mathlib.Core.Bool.{Bool, true, false, _&&_, _||_}
 use mathlib.Core.List.{List, [], _∷_}
-use mathlib.Core.Logic.{inl, inr}
+use mathlib.Core.Logic.{_⊎_, inl, inr}
 use Prim.Native.Nat.{ℕ}
 use lib.Dec.{T, eqb, eqb→eq, eqb-refl}
 use Rattle.laws.proofs.Bools.{parts, or-left, or-right}
@@ -32,6 +32,9 @@ reads request v = among v (allRead request)
 
 abbrev pub writes : List ℕ → Value → Bool
 writes request v = among v (allWritten request)
+
+abbrev pub used : List ℕ → Value → Bool
+used request v = reads request v || writes request v
 
 pub its-own : (i s : ℕ) → T (covers (one i s) (object i s))
 its-own i s = and (eqb i i) (eqb s s) (eqb-refl i) (eqb-refl s)
@@ -66,15 +69,14 @@ in-list [] v h = h
 in-list (n ∷ ns) v (inl t) = or-left (covers n v) _ (covered n v t)
 in-list (n ∷ ns) v (inr t) = or-right (covers n v) _ (in-list ns v t)
 
--- so requests are clear by the tests
-module _ (a b : List ℕ) where
-  abbrev NeverMeet : Type 0
-  NeverMeet = (v : Value) → T (writes a v) → T (reads b v || writes b v) → ⊥
+-- the same of all that a request reads or writes
+module _ (b : List ℕ) (v : Value) where
+  is-used : T (used b v) → In (allRead b) v ⊎ In (allWritten b) v
+  is-used h = one-of (reads b v) (writes b v) (λ t. inl (is-in (allRead b) v t)) (λ t. inr (is-in (allWritten b) v t)) h
 
-  pub never-meet : Clear a b → NeverMeet
-  never-meet h v w u =
-      h v (is-in (allWritten a) v w) (one-of (reads b v) (writes b v) (λ t. inl (is-in (allRead b) v t)) (λ t. inr (is-in (allWritten b) v t)) u)
+  pub in-used : In (allRead b) v ⊎ In (allWritten b) v → T (used b v)
+  in-used (inl h) = or-left (reads b v) (writes b v) (in-list (allRead b) v h)
+  in-used (inr h) = or-right (reads b v) (writes b v) (in-list (allWritten b) v h)
 
-  pub is-clear : NeverMeet → Clear a b
-  is-clear h v w (inl u) = h v (in-list (allWritten a) v w) (or-left (reads b v) (writes b v) (in-list (allRead b) v u))
-  is-clear h v w (inr u) = h v (in-list (allWritten a) v w) (or-right (reads b v) (writes b v) (in-list (allWritten b) v u))
+pub never-meet : (a b : List ℕ) → Clear a b → (v : Value) → T (writes a v) → T (used b v) → ⊥
+never-meet a b h v w u = h v (is-in (allWritten a) v w) (is-used b v u)
