@@ -2,6 +2,7 @@
 use mathlib.Core.Path.{_≡_, refl}
 use mathlib.Core.List.{List, [], _∷_}
 use Prim.Native.Nat.{ℕ}
+use Rattle.rules.proofs.BySetting.{settingsOf}
 use Rattle.rules.proofs.Table.{setting-of}
 use Rattle.rules.specs.declared.errors.ErrorList.{ErrorList}
 use Rattle.rules.specs.declared.objects.Axis.{Axis}
@@ -16,14 +17,9 @@ use Rattle.rules.specs.declared.parts.PdoCounts.{PdoCounts}
 use Rattle.rules.specs.declared.parts.Reading.{Reading}
 use Rattle.rules.specs.declared.parts.Transfer.{Transfer}
 use Rattle.rules.specs.declared.settings.Settings.{Settings}
-use Rattle.rules.specs.Settings.{Held, setting, settingsOf}
+use Rattle.rules.specs.Service.{Kept, keptIn}
+use Rattle.rules.specs.Settings.{Held, setting}
 use Rattle.rules.specs.State.{State, pdoCounts, transferOf, reading}
-
--- what only a save or a load changes
-pub record Kept : Type 0 where
-  pub filled : ℕ
-  pub stored : Settings
-  pub journal : List ℕ
 
 -- what no request changes
 pub record Rest : Type 0 where
@@ -56,7 +52,7 @@ Content rest = Rest
 abbrev pub get : (k : Cell) → State → Content k
 get (running s) u = setting s (u .running)
 get errors u = u .errors
-get kept u = record { filled = u .saves .filled; stored = u .saves .stored; journal = u .journal }
+get kept u = keptIn u
 get heartbeat u = u .heartbeat
 get (pdo n) u = pdoCounts n u
 get (transfer c) u = transferOf c u

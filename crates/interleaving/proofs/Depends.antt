@@ -1,10 +1,11 @@
 -- A request's outcome depends on what the request reads and writes, on its channel's transfer and on what no request changes, alone.
 use mathlib.Core.Path.{_≡_, refl, ap, sym, _∙_, subst, subst₂}
-use mathlib.Core.Bool.{false, cond, _||_}
+use mathlib.Core.Bool.{Bool, false, cond, _||_}
 use mathlib.Core.List.{List}
 use Prim.Native.Nat.{ℕ}
-use lib.Dec.{T}
+use lib.Dec.{T, eqb}
 use Rattle.laws.proofs.Bools.{or-left, or-right}
+use Rattle.rules.proofs.BySetting.{settingsOf}
 use Rattle.rules.proofs.EachOutcome.{each-outcome}
 use Rattle.rules.proofs.Named.{Names, named}
 use Rattle.rules.specs.declared.objects.Axis.{Axis}
@@ -19,6 +20,7 @@ use Rattle.rules.specs.declared.objects.PdoNumber.the-variants.{First}
 use Rattle.rules.specs.declared.objects.PdoSetting.the-variants.{On, Transmission, Timer}
 use Rattle.rules.specs.declared.objects.Setting.{Setting}
 use Rattle.rules.specs.declared.objects.Setting.the-variants.{Heartbeat, Pdo, Resolution, Operating, Preset, Offset, Differential}
+use Rattle.rules.specs.declared.requests.Change.the-variants.{Put, Fill}
 use Rattle.rules.specs.declared.requests.Command.{Command}
 use Rattle.rules.specs.declared.requests.Command.the-variants.{Write, Read, Segment, End, Unknown}
 use Rattle.rules.specs.declared.requests.Got.the-variants.{Number}
@@ -26,13 +28,14 @@ use Rattle.rules.specs.declared.requests.Outcome.{Outcome}
 use Rattle.rules.specs.declared.requests.Zeroed.{Zeroed}
 use Rattle.rules.specs.declared.requests.Zeroed.the-variants.{To, Refused}
 use Rattle.rules.specs.declared.settings.Settings.{Settings}
+use Rattle.rules.specs.Block.{save, load}
 use Rattle.rules.specs.Objects.{rowOf, settingRow, objectAt}
 use Rattle.rules.specs.Reads.{readOf, settingValue}
 use Rattle.rules.specs.Requests.{command, index, subindex, valueFor}
-use Rattle.rules.specs.Service.{onCommand, onRead, onSegment, outcome, served, silent, stores}
-use Rattle.rules.specs.Settings.{factory, settingsOf}
+use Rattle.rules.specs.Service.{onWrite, onCommand, onRead, onSegment, outcome, served, silent, stores}
+use Rattle.rules.specs.Settings.{factory}
 use Rattle.rules.specs.State.{State}
-use Rattle.rules.specs.Writes.{roomCheck, zeroedBy, zeroChange, settingCheck, stateCheck, writeCheck, settingChange, change}
+use Rattle.rules.specs.Writes.{WriteRow, _then_, unless, lengthCheck, pdoAccepts, valueWrite, roomCheck, fillWrite, zeroedBy, zeroChange, presetWrite, settingWrite, writeOf, change}
 use Rattle.interleaving.proofs.Cells.{Cell, running, errors, kept, transfer, axis, rest, get}
 use Rattle.interleaving.proofs.Members.{covers, readsBy, writesBy, its-own}
 use Rattle.interleaving.proofs.Uses.{names, uses, usesOf}
@@ -75,7 +78,7 @@ module _ (c : Channel) (u w : State) where
       cc (h (axis a) tt, h (running Resolution) (t .0), h (running (Operating a)) (t .1), h (running (Offset a)) (t .2), h (running (Differential a)) (t .3))
 
   read-alike : (o : Object) → For Read o → readOf o u ≡ readOf o w
-  read-alike (Const f) h = let t = rest-alike (h rest tt) in cc (t .0, t .1, t .2, t .3, t .4, h (axis X) tt, h (axis Y) tt)
+  read-alike (Const f) h = let t = rest-alike (h rest tt) in cc (t .0, t .1, t .3, t .4, h (axis X) tt, h (axis Y) tt)
   read-alike ErrorCount h = cc (h errors tt)
   read-alike (ErrorEntry n) h = cc (h errors tt)
   read-alike Name h = refl
@@ -102,14 +105,14 @@ module _ (c : Channel) (u w : State) where
         let t = preset-uses a in
         cc (h (axis a) tt, h (running Resolution) (t .0), h (running (Operating a)) (t .1), h (running (Differential a)) (t .2))
 
-    setting-alike : (s : Setting) (v : ℕ) → For (Write given) (Of s) → (settingCheck s v u ≡ settingCheck s v w) × (settingChange s v u ≡ settingChange s v w)
-    setting-alike Heartbeat v h = (refl, refl)
-    setting-alike (Pdo n p) v h = (refl, refl)
-    setting-alike Resolution v h = (refl, refl)
-    setting-alike (Operating a) v h = (refl, refl)
-    setting-alike (Preset a) v h = let e = zeroed-alike a v h in (rw e, rw e)
-    setting-alike (Offset a) v h = (refl, refl)
-    setting-alike (Differential a) v h = (refl, refl)
+    setting-alike : (s : Setting) (v : ℕ) → For (Write given) (Of s) → settingWrite s v u ≡ settingWrite s v w
+    setting-alike Heartbeat v h = refl
+    setting-alike (Pdo n p) v h = let t = h rest tt in λ i. valueWrite (pdoAccepts (t i .node) n p v) (Put (Pdo n p) v)
+    setting-alike Resolution v h = refl
+    setting-alike (Operating a) v h = refl
+    setting-alike (Preset a) v h = ap (presetWrite a v) (zeroed-alike a v h)
+    setting-alike (Offset a) v h = refl
+    setting-alike (Differential a) v h = refl
 
     -- "1010:1 reads every setting"
     save-uses : (s : Setting) → Uses (Write given) Save s
@@ -127,30 +130,31 @@ module _ (c : Channel) (u w : State) where
     save-uses (Differential X) = tt
     save-uses (Differential Y) = tt
 
-    room-alike : get rest u ≡ get rest w → get kept u ≡ get kept w →
-        roomCheck (u .saves .spoiled) (u .saves .filled) (u .saves .blocks) ≡ roomCheck (w .saves .spoiled) (w .saves .filled) (w .saves .blocks)
-    room-alike t k = λ i. roomCheck (t i .spoiled) (k i .filled) (t i .blocks)
+    -- a save and a load, by their signature and kind
+    fill-alike : (signature : Bool) (kind : ℕ) → get rest u ≡ get rest w → get kept u ≡ get kept w → fillWrite signature kind u ≡ fillWrite signature kind w
+    fill-alike signature kind t k = λ i. record {
+      value = unless signature 0x08000020;
+      state = roomCheck (t i .spoiled) (k i .filled) (t i .blocks);
+      change = λ c. Fill c kind;
+    }
 
-    write-alike : (o : Object) (v : ℕ) → For (Write given) o → (stateCheck o v u ≡ stateCheck o v w) × (change c o v u ≡ change c o v w)
-    write-alike (Const f) v h = (refl, refl)
-    write-alike ErrorCount v h = (refl, refl)
-    write-alike (ErrorEntry n) v h = (refl, refl)
-    write-alike Name v h = (refl, refl)
-    write-alike Save v h = (room-alike (h rest tt) (h kept tt), refl)
-    write-alike Load v h = (room-alike (h rest tt) (h kept tt), refl)
-    write-alike Filled v h = (refl, refl)
-    write-alike (Angle a) v h = (refl, refl)
+    write-alike : (o : Object) (v : ℕ) → For (Write given) o → writeOf o v u ≡ writeOf o v w
+    write-alike (Const f) v h = refl
+    write-alike ErrorCount v h = refl
+    write-alike (ErrorEntry n) v h = refl
+    write-alike Name v h = refl
+    write-alike Save v h = fill-alike (eqb v 0x65766173) save (h rest tt) (h kept tt)
+    write-alike Load v h = fill-alike (eqb v 0x64616F6C) load (h rest tt) (h kept tt)
+    write-alike Filled v h = refl
+    write-alike (Angle a) v h = refl
     write-alike (Of s) v h = setting-alike s v h
-
-    check-alike : (o : Object) (v : ℕ) → For (Write given) o → writeCheck given o v u ≡ writeCheck given o v w
-    check-alike o v h = cc (rest-alike (h rest tt) .0, write-alike o v h .0)
 
     -- the settings beside a change: a save's are the running ones, and no other change stores what runs
     zero-stores : (a : Axis) (v : ℕ) (z : Zeroed) (t : Settings) → stores (zeroChange a v z) t ≡ factory
     zero-stores a v (To offset) t = refl
     zero-stores a v (Refused code) t = refl
 
-    setting-stores : (s : Setting) (v : ℕ) (z : State) (t : Settings) → stores (settingChange s v z) t ≡ factory
+    setting-stores : (s : Setting) (v : ℕ) (z : State) (t : Settings) → stores (settingWrite s v z .change c) t ≡ factory
     setting-stores Heartbeat v z t = refl
     setting-stores (Pdo n p) v z t = refl
     setting-stores Resolution v z t = refl
@@ -173,7 +177,8 @@ module _ (c : Channel) (u w : State) where
   command-alike : (request : List ℕ) (k : Command) (i s : ℕ) (f : Found) → Names f i s → Alike c k i s u w → onCommand c request k f u ≡ onCommand c request k f w
   command-alike request (Write given) i s (At o) n h =
       let g : For (Write given) o = subst₂ (λ (i s : ℕ). Alike c (Write given) i s u w) (n .0) (n .1) h in
-      cc (check-alike given o (valueFor o request) g, write-alike given o (valueFor o request) g .1)
+      ap (λ (row : WriteRow). onWrite request (unless (rowOf o .writable) 0x06010002 then lengthCheck given (rowOf o .size) then row .value then row .state) (row .change c))
+      (write-alike given o (valueFor o request) g)
   command-alike request (Write given) i s NoObject n h = refl
   command-alike request (Write given) i s NoSubindex n h = refl
   command-alike request Read i s (At o) n h = ap (onRead request) (read-alike o (subst₂ (λ (i s : ℕ). Alike c Read i s u w) (n .0) (n .1) h))

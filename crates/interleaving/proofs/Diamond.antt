@@ -9,12 +9,14 @@ use Rattle.rules.specs.declared.objects.Channel.{Channel}
 use Rattle.rules.specs.declared.objects.Channel.the-variants.{One, Two}
 use Rattle.rules.specs.declared.objects.PdoNumber.{PdoNumber}
 use Rattle.rules.specs.declared.parts.PdoCounts.{PdoCounts}
+use Rattle.rules.specs.declared.objects.Setting.{Setting}
+use Rattle.rules.specs.declared.objects.Setting.the-variants.{Heartbeat}
 use Rattle.rules.specs.declared.requests.Change.{Change}
 use Rattle.rules.specs.declared.requests.Change.the-variants.{Keep, Put, Zero, Empty, Fill}
 use Rattle.rules.specs.declared.requests.Command.{Command}
 use Rattle.rules.specs.declared.requests.Command.the-variants.{Write, Read, Segment, End, Unknown}
 use Rattle.rules.specs.declared.settings.Settings.{Settings}
-use Rattle.rules.specs.Objects.{settingRow, onPdo}
+use Rattle.rules.specs.Objects.{sameSetting, ofPdo}
 use Rattle.rules.specs.Requests.{command, index, subindex}
 use Rattle.rules.specs.Service.{outcome, stores, onHeartbeat, onCounts, after}
 use Rattle.rules.specs.State.{State, noCounts}
@@ -54,21 +56,24 @@ two-transfers Two One Two h p q = p
 two-transfers Two Two b h p q = h tt
 
 -- a count that one zeroes, and the other zeroes or leaves
-abbrev zeroes : ℕ → Change → Bool
-zeroes i Keep = false
-zeroes i (Put s v) = eqb (settingRow s .index) i
-zeroes i (Zero a preset offset) = false
-zeroes i Empty = false
-zeroes i (Fill c kind) = false
+abbrev zeroes : (Setting → Bool) → Change → Bool
+zeroes told Keep = false
+zeroes told (Put s v) = told s
+zeroes told (Zero a preset offset) = false
+zeroes told Empty = false
+zeroes told (Fill c kind) = false
 
-heartbeat-is : (e : Change) (x : ℕ) → onHeartbeat e x ≡ cond (zeroes 0x1017 e) 0 x
+abbrev isHeartbeat : Setting → Bool
+isHeartbeat s = sameSetting s Heartbeat
+
+heartbeat-is : (e : Change) (x : ℕ) → onHeartbeat e x ≡ cond (zeroes isHeartbeat e) 0 x
 heartbeat-is Keep x = refl
 heartbeat-is (Put s v) x = refl
 heartbeat-is (Zero a preset offset) x = refl
 heartbeat-is Empty x = refl
 heartbeat-is (Fill c kind) x = refl
 
-pdo-is : (n : PdoNumber) (e : Change) (x : PdoCounts) → onCounts n e x ≡ cond (zeroes (onPdo n) e) noCounts x
+pdo-is : (n : PdoNumber) (e : Change) (x : PdoCounts) → onCounts n e x ≡ cond (zeroes (ofPdo n) e) noCounts x
 pdo-is n Keep x = refl
 pdo-is n (Put s v) x = refl
 pdo-is n (Zero a preset offset) x = refl
@@ -82,10 +87,10 @@ zeroed-twice false true zero x = refl
 zeroed-twice false false zero x = refl
 
 heartbeat-swaps : (e f : Change) (x : ℕ) → onHeartbeat e (onHeartbeat f x) ≡ onHeartbeat f (onHeartbeat e x)
-heartbeat-swaps e f x = simp heartbeat-is (zeroed-twice (zeroes 0x1017 e) (zeroes 0x1017 f) 0 x)
+heartbeat-swaps e f x = simp heartbeat-is (zeroed-twice (zeroes isHeartbeat e) (zeroes isHeartbeat f) 0 x)
 
 pdo-swaps : (n : PdoNumber) (e f : Change) (x : PdoCounts) → onCounts n e (onCounts n f x) ≡ onCounts n f (onCounts n e x)
-pdo-swaps n e f x = simp (pdo-is n) (zeroed-twice (zeroes (onPdo n) e) (zeroes (onPdo n) f) noCounts x)
+pdo-swaps n e f x = simp (pdo-is n) (zeroed-twice (zeroes (ofPdo n) e) (zeroes (ofPdo n) f) noCounts x)
 
 -- the state after a request on a channel
 abbrev pub next : Channel → List ℕ → State → State

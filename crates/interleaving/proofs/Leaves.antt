@@ -5,6 +5,7 @@ use mathlib.Core.List.{List}
 use Prim.Native.Nat.{ℕ}
 use lib.Dec.{T}
 use lib.IntN.{ℤ}
+use Rattle.rules.proofs.BySetting.{valued, zeroedAt, onSetting}
 use Rattle.rules.proofs.EachOutcome.{each-outcome}
 use Rattle.rules.proofs.Named.{Names, named}
 use Rattle.rules.specs.declared.errors.ErrorList.{ErrorList}
@@ -28,14 +29,14 @@ use Rattle.rules.specs.declared.requests.Zeroed.the-variants.{To, Refused}
 use Rattle.rules.specs.declared.settings.Settings.{Settings}
 use Rattle.rules.specs.Block.{save, load}
 use Rattle.rules.specs.Numbers.{signed}
-use Rattle.rules.specs.Objects.{sameObject, settingRow, rowOf, objectAt}
+use Rattle.rules.specs.Objects.{sameSetting, settingRow, rowOf, objectAt}
 use Rattle.rules.specs.Requests.{command, index, subindex, valueFor}
-use Rattle.rules.specs.Service.{outcome, valued, zeroedAt, onSetting, onErrors, onTransfer}
+use Rattle.rules.specs.Service.{Kept, outcome, onErrors, onKept, onTransfer}
 use Rattle.rules.specs.Settings.{Held}
 use Rattle.rules.specs.State.{State}
-use Rattle.rules.specs.Writes.{zeroedBy, zeroChange, settingChange, change}
-use Rattle.interleaving.proofs.Acts.{onKept, act}
-use Rattle.interleaving.proofs.Cells.{Kept, Cell, running, errors, kept, heartbeat, pdo, transfer, axis, rest, Content}
+use Rattle.rules.specs.Writes.{zeroedBy, zeroChange, settingWrite, change}
+use Rattle.interleaving.proofs.Acts.{act}
+use Rattle.interleaving.proofs.Cells.{Cell, running, errors, kept, heartbeat, pdo, transfer, axis, rest, Content}
 use Rattle.interleaving.proofs.Members.{writesBy}
 use Rattle.interleaving.proofs.Uses.{sameChannel, objectOf, isWrite, altersOf}
 use Rattle.interleaving.specs.ReadsWrites.{journal, is}
@@ -56,7 +57,7 @@ module _ (given : ℕ) where
   -- "Write: its object"
   put-leaves : (s : Setting) (v : ℕ) → Written (Of s) (Put s v)
   put-leaves s v = record {
-    running = λ t x h. unless t x (sameObject (settingRow t) (settingRow s)) _ h;
+    running = λ t x h. unless t x (sameSetting t s) _ h;
     errors = λ x h. refl;
     kept = λ t x h. refl;
   }
@@ -87,7 +88,7 @@ module _ (given : ℕ) where
   preset-leaves a v (Refused code) = keep-leaves (Write given) _ 0
 
   module _ (c : Channel) (v : ℕ) (u : State) where
-    setting-leaves : (s : Setting) → Written (Of s) (settingChange s v u)
+    setting-leaves : (s : Setting) → Written (Of s) (settingWrite s v u .change c)
     setting-leaves Heartbeat = put-leaves Heartbeat v
     setting-leaves (Pdo n p) = put-leaves (Pdo n p) v
     setting-leaves Resolution = put-leaves Resolution v
