@@ -15,7 +15,7 @@ use Rattle.rules.specs.declared.requests.Command.{Command}
 use Rattle.rules.specs.declared.requests.Command.the-variants.{Write, Read, Segment, End, Unknown}
 use Rattle.rules.specs.Objects.{rowOf, objectAt}
 use Rattle.rules.specs.Reads.{readOf}
-use Rattle.rules.specs.Requests.{command, index, subindex, valueFor}
+use Rattle.rules.specs.Requests.{command, indexOf, subindexOf, valueFor}
 use Rattle.rules.specs.Service.{onWrite, onCommand, outcome}
 use Rattle.rules.specs.State.{State, transferOf}
 use Rattle.rules.specs.Writes.{WriteRow, _then_, unless, lengthCheck, settingWrite, writeOf}
@@ -27,7 +27,7 @@ use Rattle.device.specs.Views.{viewOf}
 module _ (c : Channel) (d : Device) (j : List ℕ) where
   -- the view's state, and the record's beside the journal
   abbrev looked : State
-  looked = view.seen (viewOf c d)
+  looked = view.viewed (viewOf c d)
 
   abbrev whole : State
   whole = seen d j
@@ -65,12 +65,12 @@ module _ (c : Channel) (d : Device) (j : List ℕ) where
   write-alike (Angle a) v = refl
   write-alike (Of s) v = setting-alike s v
 
-transfer-alike : (c : Channel) (d : Device) (j : List ℕ) → transferOf c (view.seen (viewOf c d)) ≡ transferOf c (seen d j)
+transfer-alike : (c : Channel) (d : Device) (j : List ℕ) → transferOf c (view.viewed (viewOf c d)) ≡ transferOf c (seen d j)
 transfer-alike One d j = refl
 transfer-alike Two d j = refl
 
 module _ (c : Channel) (request : List ℕ) (d : Device) (j : List ℕ) where
-  command-alike : (k : Command) (f : Found) → onCommand c request k f (view.seen (viewOf c d)) ≡ onCommand c request k f (seen d j)
+  command-alike : (k : Command) (f : Found) → onCommand c request k f (view.viewed (viewOf c d)) ≡ onCommand c request k f (seen d j)
   command-alike (Write given) (At o) =
       ap (λ (w : WriteRow). onWrite request (unless (rowOf o .writable) 0x06010002 then lengthCheck given (rowOf o .size) then w .value then w .state) (w .change c))
       (write-alike c d j o (valueFor o request))
@@ -83,5 +83,5 @@ module _ (c : Channel) (request : List ℕ) (d : Device) (j : List ℕ) where
   command-alike End f = refl
   command-alike Unknown f = refl
 
-  pub outcome-alike : outcome c request (view.seen (viewOf c d)) ≡ outcome c request (seen d j)
-  outcome-alike = rw (command-alike (command request) (objectAt (index request) (subindex request)), transfer-alike c d j)
+  pub outcome-alike : outcome c request (view.viewed (viewOf c d)) ≡ outcome c request (seen d j)
+  outcome-alike = rw (command-alike (command request) (objectAt (indexOf request) (subindexOf request)), transfer-alike c d j)

@@ -7,7 +7,7 @@ use Rattle.rules.specs.declared.objects.Channel.the-variants.{One, Two}
 use Rattle.rules.specs.declared.objects.PdoNumber.the-variants.{First}
 use Rattle.rules.specs.declared.requests.Outcome.{Outcome}
 use Rattle.rules.specs.declared.settings.Settings.{Settings}
-use Rattle.rules.specs.Service.{onErrors, stores, keptIn, onKept, onHeartbeat, onCounts, onTransfer, after}
+use Rattle.rules.specs.Service.{onErrors, stores, keptIn, onKept, onHeartbeat, onCounts, onTransfer, stateAfter}
 use Rattle.rules.specs.State.{State, transferOf}
 use Rattle.interleaving.proofs.Cells.{Cell, running, errors, kept, heartbeat, pdo, transfer, axis, rest, Content, get, stateOf}
 
@@ -23,7 +23,7 @@ act c o t (axis a) x = x
 act c o t rest x = x
 
 -- the running settings are given one by one, the other parts are the cells' already
-pub after-acts : (c : Channel) (o : Outcome) (u : State) → after c o u ≡ stateOf (λ k. act c o (stores (o .change) (u .running)) k (get k u))
+pub after-acts : (c : Channel) (o : Outcome) (u : State) → stateAfter c o u ≡ stateOf (λ k. act c o (stores (o .change) (u .running)) k (get k u))
 after-acts c o u =
     let left = onKept (o .change) (stores (o .change) (u .running)) (keptIn u) in
     ap (λ (t : Settings). record {

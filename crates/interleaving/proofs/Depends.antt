@@ -28,10 +28,10 @@ use Rattle.rules.specs.declared.requests.Outcome.{Outcome}
 use Rattle.rules.specs.declared.requests.Zeroed.{Zeroed}
 use Rattle.rules.specs.declared.requests.Zeroed.the-variants.{To, Refused}
 use Rattle.rules.specs.declared.settings.Settings.{Settings}
-use Rattle.rules.specs.Block.{save, load}
+use Rattle.rules.specs.Block.{saveKind, loadKind}
 use Rattle.rules.specs.Objects.{rowOf, settingRow, objectAt}
 use Rattle.rules.specs.Reads.{readOf, settingValue}
-use Rattle.rules.specs.Requests.{command, index, subindex, valueFor}
+use Rattle.rules.specs.Requests.{command, indexOf, subindexOf, valueFor}
 use Rattle.rules.specs.Service.{onWrite, onCommand, onRead, onSegment, outcome, served, silent, stores}
 use Rattle.rules.specs.Settings.{factory}
 use Rattle.rules.specs.State.{State}
@@ -143,8 +143,8 @@ module _ (c : Channel) (u w : State) where
     write-alike ErrorCount v h = refl
     write-alike (ErrorEntry n) v h = refl
     write-alike Name v h = refl
-    write-alike Save v h = fill-alike (eqb v 0x65766173) save (h rest tt) (h kept tt)
-    write-alike Load v h = fill-alike (eqb v 0x64616F6C) load (h rest tt) (h kept tt)
+    write-alike Save v h = fill-alike (eqb v 0x65766173) saveKind (h rest tt) (h kept tt)
+    write-alike Load v h = fill-alike (eqb v 0x64616F6C) loadKind (h rest tt) (h kept tt)
     write-alike Filled v h = refl
     write-alike (Angle a) v h = refl
     write-alike (Of s) v h = setting-alike s v h
@@ -194,12 +194,12 @@ module _ (c : Channel) (u w : State) where
 
 pub outcome-alike : (c : Channel) (request : List ℕ) (u w : State) → ((cell : Cell) → T (usesOf c request cell) → get cell u ≡ get cell w) → outcome c request u ≡ outcome c request w
 outcome-alike c request u w h =
-    let o = command-alike c u w request (command request) (index request) (subindex request) (objectAt (index request) (subindex request)) (named (index request) (subindex request)) h in
+    let o = command-alike c u w request (command request) (indexOf request) (subindexOf request) (objectAt (indexOf request) (subindexOf request)) (named (indexOf request) (subindexOf request)) h in
     let t = h rest tt in
     let x = h (transfer c) (mine c) in
     λ i. cond (served (t i .network)) (o i) (silent (x i))
   where
-    mine : (c : Channel) → T (uses c (command request) (index request) (subindex request) (transfer c))
+    mine : (c : Channel) → T (uses c (command request) (indexOf request) (subindexOf request) (transfer c))
     mine One = tt
     mine Two = tt
 
@@ -222,7 +222,7 @@ stores-alike c request u w h =
     })
     ∙ ap (λ (o : Outcome). stores (o .change) (w .running)) (outcome-alike c request u w h)
   where
-    its : (given : ℕ) (o : Object) → command request ≡ Write given → objectAt (index request) (subindex request) ≡ At o → For c u w (Write given) o
+    its : (given : ℕ) (o : Object) → command request ≡ Write given → objectAt (indexOf request) (subindexOf request) ≡ At o → For c u w (Write given) o
     its given o p q =
-        let n = subst (λ (f : Found). Names f (index request) (subindex request)) q (named (index request) (subindex request)) in
-        subst₂ (λ (i s : ℕ). Alike c (Write given) i s u w) (n .0) (n .1) (subst (λ (k : Command). Alike c k (index request) (subindex request) u w) p h)
+        let n = subst (λ (f : Found). Names f (indexOf request) (subindexOf request)) q (named (indexOf request) (subindexOf request)) in
+        subst₂ (λ (i s : ℕ). Alike c (Write given) i s u w) (n .0) (n .1) (subst (λ (k : Command). Alike c k (indexOf request) (subindexOf request) u w) p h)

@@ -17,8 +17,8 @@ use Rattle.rules.specs.declared.requests.Command.{Command}
 use Rattle.rules.specs.declared.requests.Command.the-variants.{Write, Read, Segment, End, Unknown}
 use Rattle.rules.specs.declared.settings.Settings.{Settings}
 use Rattle.rules.specs.Objects.{sameSetting, ofPdo}
-use Rattle.rules.specs.Requests.{command, index, subindex}
-use Rattle.rules.specs.Service.{outcome, stores, onHeartbeat, onCounts, after}
+use Rattle.rules.specs.Requests.{command, indexOf, subindexOf}
+use Rattle.rules.specs.Service.{outcome, stores, onHeartbeat, onCounts, stateAfter}
 use Rattle.rules.specs.State.{State, noCounts}
 use Rattle.interleaving.proofs.Acts.{act, after-acts}
 use Rattle.interleaving.proofs.Cells.{Cell, running, errors, kept, heartbeat, pdo, transfer, axis, rest, Content, get, stateOf, get-of, of-same}
@@ -94,17 +94,17 @@ pdo-swaps n e f x = simp (pdo-is n) (zeroed-twice (zeroes (ofPdo n) e) (zeroes (
 
 -- the state after a request on a channel
 abbrev pub next : Channel → List ℕ → State → State
-next c request u = after c (outcome c request u) u
+next c request u = stateAfter c (outcome c request u) u
 
 module _ (c d : Channel) (two : T (sameChannel c d) → ⊥) (a b : List ℕ) (clear : Clear a b) where
   -- what b on d uses, a on c does not alter
   no-meeting : (cell : Cell) → T (usesOf d b cell) → T (altersOf c a cell) → ⊥
   no-meeting (running t) p q = never-meet a b clear (objectOf t) q p
   no-meeting errors p q =
-      let n = parts (names (command b)) (eqb (index b) 0x1003) p in
-      never-meet a b clear (object 0x1003 (subindex b)) (emptier-writes (index a) (subindex a) (command a) q (subindex b))
-      (subst (λ (i : ℕ). T (reads b (object i (subindex b)) || writes b (object i (subindex b)))) (eqb→eq (index b) 0x1003 (n .1))
-      (own (command b) (index b) (subindex b) (n .0)))
+      let n = parts (names (command b)) (eqb (indexOf b) 0x1003) p in
+      never-meet a b clear (object 0x1003 (subindexOf b)) (emptier-writes (indexOf a) (subindexOf a) (command a) q (subindexOf b))
+      (subst (λ (i : ℕ). T (reads b (object i (subindexOf b)) || writes b (object i (subindexOf b)))) (eqb→eq (indexOf b) 0x1003 (n .1))
+      (own (command b) (indexOf b) (subindexOf b) (n .0)))
   no-meeting kept p q = never-meet a b clear journal q p
   no-meeting heartbeat p q = p
   no-meeting (pdo n) p q = p
@@ -152,7 +152,7 @@ module _ (c d : Channel) (two : T (sameChannel c d) → ⊥) (a b : List ℕ) (c
 
     swaps : (k : Cell) (x : Content k) → second k (first k x) ≡ first k (second k x)
     swaps (running t) x = one-alters (running t) x (λ h. no-meeting (running t) (or-right (reads b (objectOf t)) _ h)) _ refl
-    swaps errors x = one-alters errors x (λ h. no-meeting errors (emptier-names (index b) (subindex b) (command b) h)) _ refl
+    swaps errors x = one-alters errors x (λ h. no-meeting errors (emptier-names (indexOf b) (subindexOf b) (command b) h)) _ refl
     swaps kept x = one-alters kept x (λ h. no-meeting kept (or-right (reads b journal) _ h)) _ refl
     swaps heartbeat x = heartbeat-swaps (outcome d b u .change) (outcome c a u .change) x
     swaps (pdo n) x = pdo-swaps n (outcome d b u .change) (outcome c a u .change) x

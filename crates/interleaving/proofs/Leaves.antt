@@ -27,10 +27,10 @@ use Rattle.rules.specs.declared.requests.Command.the-variants.{Write}
 use Rattle.rules.specs.declared.requests.Zeroed.{Zeroed}
 use Rattle.rules.specs.declared.requests.Zeroed.the-variants.{To, Refused}
 use Rattle.rules.specs.declared.settings.Settings.{Settings}
-use Rattle.rules.specs.Block.{save, load}
+use Rattle.rules.specs.Block.{saveKind, loadKind}
 use Rattle.rules.specs.Numbers.{signed}
 use Rattle.rules.specs.Objects.{sameSetting, settingRow, rowOf, objectAt}
-use Rattle.rules.specs.Requests.{command, index, subindex, valueFor}
+use Rattle.rules.specs.Requests.{command, indexOf, subindexOf, valueFor}
 use Rattle.rules.specs.Service.{Kept, outcome, onErrors, onKept, onTransfer}
 use Rattle.rules.specs.Settings.{Held}
 use Rattle.rules.specs.State.{State}
@@ -107,8 +107,8 @@ module _ (given : ℕ) where
     change-leaves ErrorCount = record { running = λ t x h. refl; errors = λ x h. absurd (h tt); kept = λ t x h. refl }
     change-leaves (ErrorEntry n) = keep-leaves (Write given) _ n
     change-leaves Name = keep-leaves (Write given) _ _
-    change-leaves Save = fill-leaves Save save tt
-    change-leaves Load = fill-leaves Load load tt
+    change-leaves Save = fill-leaves Save saveKind tt
+    change-leaves Load = fill-leaves Load loadKind tt
     change-leaves Filled = keep-leaves (Write given) _ _
     change-leaves (Angle a) = keep-leaves (Write given) _ _
     change-leaves (Of s) = setting-leaves s
@@ -116,16 +116,16 @@ module _ (given : ℕ) where
 -- the outcome of a request
 module _ (c : Channel) (request : List ℕ) (u : State) where
   abbrev Left : Change → Type 0
-  Left e = Leaves (command request) (index request) (subindex request) e
+  Left e = Leaves (command request) (indexOf request) (subindexOf request) e
 
-  wrote-leaves : (given : ℕ) (o : Object) (v : ℕ) → command request ≡ Write given → objectAt (index request) (subindex request) ≡ At o → Left (change c o v u)
+  wrote-leaves : (given : ℕ) (o : Object) (v : ℕ) → command request ≡ Write given → objectAt (indexOf request) (subindexOf request) ≡ At o → Left (change c o v u)
   wrote-leaves given o v p q =
-      let n = subst (λ (f : Found). Names f (index request) (subindex request)) q (named (index request) (subindex request)) in
+      let n = subst (λ (f : Found). Names f (indexOf request) (subindexOf request)) q (named (indexOf request) (subindexOf request)) in
       rw (p, n .0, n .1) (change-leaves given c v u o)
 
   outcome-leaves : Left (outcome c request u .change)
   outcome-leaves =
-      let keeps = keep-leaves (command request) (index request) (subindex request) in
+      let keeps = keep-leaves (command request) (indexOf request) (subindexOf request) in
       each-outcome c request u (λ o. Left (o .change))
       (record {
         aborted = λ code. keeps;

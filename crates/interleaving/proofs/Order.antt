@@ -25,7 +25,7 @@ use Rattle.interleaving.proofs.Each.{each}
 use Rattle.interleaving.proofs.Sorted.{endIn, answersIn}
 use Rattle.interleaving.specs.Demand3.{Alike}
 use Rattle.interleaving.specs.Device.{device}
-use Rattle.interleaving.specs.Order.{Pair, pair, OrderMatters, NotApart, pairs, NoLineIdle}
+use Rattle.interleaving.specs.Order.{Pair, pair, OrderMatters, NotApart, allPairs, NoLineIdle}
 use Rattle.interleaving.specs.Runs.{Turn, turn, Answer, only}
 
 -- numbers in a row are the same
@@ -89,4 +89,4 @@ fine = (refl, refl)
 
 pub no-line-idle : NoLineIdle
 unfolding endIn answersIn device commandOf twoAt fourAt find lengthCheck roomCheck reply angleRead entryRead settingValue angle sum q zeroed offset
-no-line-idle = each (differs device) (OrderMatters device) (order-matters device fine) pairs refl
+no-line-idle = each (differs device) (OrderMatters device) (order-matters device fine) allPairs refl

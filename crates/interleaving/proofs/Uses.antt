@@ -9,7 +9,7 @@ use Rattle.rules.specs.declared.objects.Setting.{Setting}
 use Rattle.rules.specs.declared.requests.Command.{Command}
 use Rattle.rules.specs.declared.requests.Command.the-variants.{Write, Read, Segment, End, Unknown}
 use Rattle.rules.specs.Objects.{settingRow}
-use Rattle.rules.specs.Requests.{command, index, subindex}
+use Rattle.rules.specs.Requests.{command, indexOf, subindexOf}
 use Rattle.interleaving.proofs.Cells.{Cell, running, errors, kept, heartbeat, pdo, transfer, axis, rest}
 use Rattle.interleaving.proofs.Members.{readsBy, writesBy}
 use Rattle.interleaving.specs.ReadsWrites.{Value, object, journal, is}
@@ -63,7 +63,7 @@ alters c k i s rest = false
 
 -- the cells of a request by its bytes
 abbrev pub usesOf : Channel → List ℕ → Cell → Bool
-usesOf c request x = uses c (command request) (index request) (subindex request) x
+usesOf c request x = uses c (command request) (indexOf request) (subindexOf request) x
 
 abbrev pub altersOf : Channel → List ℕ → Cell → Bool
-altersOf c request x = alters c (command request) (index request) (subindex request) x
+altersOf c request x = alters c (command request) (indexOf request) (subindexOf request) x

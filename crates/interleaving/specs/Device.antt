@@ -12,8 +12,8 @@ use Rattle.rules.specs.State.{State, operational, noTransfers, good, noCounts}
 use Rattle.interleaving.specs.Runs.{RunFrame}
 
 -- an axis at 12345 thousandths, 1234 steps of 6000
-abbrev pub reading : Reading
-reading = record { state = good; m = pos 12345 }
+abbrev pub goodReading : Reading
+goodReading = record { state = good; m = pos 12345 }
 
 -- its offsets are added, and its offset is the one of a preset of 7
 abbrev pub adding : AxisSettings
@@ -31,23 +31,23 @@ device = record {
   heartbeat = 0;
   pdo = noCounts;
   transfers = noTransfers;
-  x = reading;
-  y = reading;
+  x = goodReading;
+  y = goodReading;
   journal = replicate 512 255;
 }
 
-abbrev pub request : List ℕ → RunFrame
-request bytes = record { remote = false; bytes = bytes; length = 8 }
+abbrev pub requestFrame : List ℕ → RunFrame
+requestFrame bytes = record { remote = false; bytes = bytes; length = 8 }
 
 -- "40h read"; "22h takes the object's own length"
-abbrev pub read : ℕ → ℕ → RunFrame
-read index subindex = request (0x40 ∷ two index ++ subindex ∷ four 0)
+abbrev pub readFrame : ℕ → ℕ → RunFrame
+readFrame index subindex = requestFrame (0x40 ∷ two index ++ subindex ∷ four 0)
 
-abbrev pub write : ℕ → ℕ → ℕ → RunFrame
-write index subindex value = request (0x22 ∷ two index ++ subindex ∷ four value)
+abbrev pub writeFrame : ℕ → ℕ → ℕ → RunFrame
+writeFrame index subindex value = requestFrame (0x22 ∷ two index ++ subindex ∷ four value)
 
-abbrev pub save : RunFrame
-save = write 0x1010 1 0x65766173
+abbrev pub saveFrame : RunFrame
+saveFrame = writeFrame 0x1010 1 0x65766173
 
-abbrev pub load : RunFrame
-load = write 0x1011 1 0x64616F6C
+abbrev pub loadFrame : RunFrame
+loadFrame = writeFrame 0x1011 1 0x64616F6C

@@ -8,7 +8,7 @@ use lib.Dec.{eqb}
 use Rattle.rules.specs.declared.requests.Command.{Command}
 use Rattle.rules.specs.declared.requests.Command.the-variants.{Write, Read, Segment, End, Unknown}
 use Rattle.rules.specs.Objects.{settingRow}
-use Rattle.rules.specs.Requests.{command, index, subindex}
+use Rattle.rules.specs.Requests.{command, indexOf, subindexOf}
 use Rattle.rules.specs.Settings.{settings}
 
 -- what is read and written: an object, by its numbers, or the journal
@@ -88,10 +88,10 @@ writesOf Unknown i s = []
 
 -- "By its first four bytes"
 abbrev pub allRead : List ℕ → List Named
-allRead request = readsOf (command request) (index request) (subindex request)
+allRead request = readsOf (command request) (indexOf request) (subindexOf request)
 
 abbrev pub allWritten : List ℕ → List Named
-allWritten request = writesOf (command request) (index request) (subindex request)
+allWritten request = writesOf (command request) (indexOf request) (subindexOf request)
 
 -- a "writes what … the other reads or writes": never
 abbrev pub Clear : List ℕ → List ℕ → Type 0

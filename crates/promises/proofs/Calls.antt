@@ -4,7 +4,7 @@ use mathlib.Core.Bool.{true}
 use mathlib.Core.List.{List, []}
 use Prim.Native.Nat.{ℕ}
 use Rattle.answers.specs.declared.Answer.{Answer}
-use Rattle.basintilt.specs.Happenings.{eventOf, bytesIn}
+use Rattle.basintilt.specs.Happenings.{eventOf, lengthIn}
 use Rattle.basintilt.specs.Lent.{stepOf, journalOf}
 use Rattle.device.specs.declared.Device.{Device}
 use Rattle.device.specs.declared.Stepped.{Stepped}
@@ -18,7 +18,7 @@ use Rattle.rules.specs.PowerOn.{powerOn}
 use Rattle.rules.specs.Ranges.{inRange}
 use Rattle.rules.specs.State.{State}
 use Rattle.saves.proofs.Steps.{Holds, Step, along, by-act, along-acts}
-use Rattle.saves.specs.Histories.{Act, power, occurs, done, after, sent, unpowered}
+use Rattle.saves.specs.Histories.{Act, power, occurs, done, afterActs, sentBy, unpowered}
 use Rattle.promises.specs.Calls.{Call, powers, lends, Calls, none, next, History, begins, goesOn}
 use Rattle.promises.specs.TwoFrames.{framesIn}
 use Rattle.promises.specs.Untouched.{zeroRecord}
@@ -44,7 +44,7 @@ as-act {j} (powers node identity s p) = record {
   refusal = sym (ap (λ (x : Stepped). x .answer .refusal) p);
 }
 as-act {d} {j} (lends h r a k p) = record {
-  act = occurs (eventOf h) (h .bytes) (bytesIn h);
+  act = occurs (eventOf h) (h .bytes) (lengthIn h);
   state = held-then _ a k (p .1) (p .2);
   sent = sym (lent-frames d j h r a k p);
   refusal = sym (ap (λ (x : Answer). x .refusal) (p .0));
@@ -57,7 +57,7 @@ call-step {d} {a} {j} {k} c holds =
     subst (λ (f : List Frame). Step (seen d j) f (seen a k)) (x .sent) (subst (Step (seen d j) _) (x .state) (by-act (seen d j) holds (x .act)))
 
 pub calls-step : {d a : Device} {j k : List ℕ} → Calls d j a k → Holds (seen d j) → (frames : List Frame) × Step (seen d j) frames (seen a k)
-unfolding after sent
+unfolding afterActs sentBy
 calls-step {d} {j} none holds = ([], along-acts [] (seen d j) holds)
 calls-step (next before c) holds =
     let s = calls-step before holds .1 in

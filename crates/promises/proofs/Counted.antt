@@ -6,10 +6,10 @@ use Rattle.rules.specs.Acknowledged.{acknowledged}
 use Rattle.rules.specs.PowerOn.{savesIn}
 use Rattle.saves.proofs.Counted.{none-yet}
 use Rattle.promises.specs.Calls.{powers}
-use Rattle.promises.specs.Counted.{Counted}
+use Rattle.promises.specs.Counted.{CallsCounted}
 use Rattle.promises.proofs.Calls.{call-step, history-step, call-in, history-in}
 
-pub counted : Counted
+pub counted : CallsCounted
 counted blocks frames r d k history =
     let now = history-step history in
     let found : savesIn k .filled ≡ acknowledged frames = omega (arith, now .filled, none-yet blocks .0) in (

@@ -16,14 +16,14 @@ use Rattle.rules.specs.declared.events.Frame.{Frame}
 use Rattle.rules.specs.declared.objects.Channel.{Channel}
 use Rattle.rules.specs.declared.parts.Identity.{Identity}
 use Rattle.rules.specs.Events.{answered, onService, onFrame, onEvent, request, NotRefused, event}
-use Rattle.rules.specs.Frames.{bootUp}
+use Rattle.rules.specs.Frames.{bootUpFrame}
 use Rattle.rules.specs.Journal.{lengthOk, blankBlocks}
-use Rattle.rules.specs.Network.{onNetwork, onCommand, start}
+use Rattle.rules.specs.Network.{onNetwork, onNetworkCommand, start}
 use Rattle.rules.specs.Numbers.{twoAt}
 use Rattle.rules.specs.Objects.{find, objectAt}
 use Rattle.rules.specs.PowerOn.{powerOn}
 use Rattle.rules.specs.Replies.{reply}
-use Rattle.rules.specs.Requests.{commandOf, command, index, subindex}
+use Rattle.rules.specs.Requests.{commandOf, command, indexOf, subindexOf}
 use Rattle.rules.specs.Results.{Result}
 use Rattle.rules.specs.Service as service
 use Rattle.rules.specs.State.{State}
@@ -48,11 +48,11 @@ module _ (u : State) (fine : NotRefused u) where
   by-kind e bytes n = then-its-kind e bytes n u (fine .0) (fine .1)
 
   starts : event network (toAll 0x01) 2 u .state .network ≡ 5
-  unfolding onFrame onNetwork onCommand
+  unfolding onFrame onNetwork onNetworkCommand
   starts = ap (λ (r : Result). r .state .network) (by-kind network (toAll 0x01) 2)
 
-  boots : event network (toAll 0x82) 2 u .sent ≡ bootUp (u .node) ∷ []
-  unfolding onFrame onNetwork onCommand
+  boots : event network (toAll 0x82) 2 u .sent ≡ bootUpFrame (u .node) ∷ []
+  unfolding onFrame onNetwork onNetworkCommand
   boots = ap sent (by-kind network (toAll 0x82) 2)
 
 -- node 1, powered on with one blank block
@@ -96,7 +96,7 @@ works-once sensor (node, identity, j, on, first, bytes, n, dead) meets =
     let u = event first bytes n start .state in
     let same : sensor first bytes n start .state ≡ u = ap state (meets first bytes n start) in
     let silent = rw same at (dead network (toAll 0x82) 2 .1) in
-    some (bootUp (u .node))
+    some (bootUpFrame (u .node))
     (sym silent ∙ ap sent (meets network (toAll 0x82) 2 u) ∙ boots u (event-stays start (start-stays node identity j on) first bytes n))
 
 -- reads of 1000:0 and of 1018:0 are answered 43h and 4Fh first
@@ -116,7 +116,7 @@ ending = 0x80 ∷ 0 ∷ 0 ∷ 0 ∷ 0 ∷ 0 ∷ 0 ∷ 0 ∷ []
 
 -- requests on any channel, beside any record that serves
 module _ (c : Channel) (u : State) (serves : Serves u) where
-  on-channel : (bytes : List ℕ) → replies event c bytes u ≡ answered c (service.onCommand c bytes (command bytes) (objectAt (index bytes) (subindex bytes)) u) u .sent
+  on-channel : (bytes : List ℕ) → replies event c bytes u ≡ answered c (service.onCommand c bytes (command bytes) (objectAt (indexOf bytes) (subindexOf bytes)) u) u .sent
   unfolding onService
   on-channel bytes = ap sent (request-received false bytes 8 u (serves .0 .0) (serves .0 .1) c) ∙ rw (serves .1)
 

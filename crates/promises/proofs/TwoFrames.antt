@@ -5,7 +5,7 @@ use Prim.Native.Nat.{ℕ, _≤_}
 use native.Mathlib.Omega.{arith}
 use lib.ListN.{length}
 use Rattle.answers.specs.Answers.{answering}
-use Rattle.basintilt.specs.Happenings.{eventOf, bytesIn}
+use Rattle.basintilt.specs.Happenings.{eventOf, lengthIn}
 use Rattle.basintilt.specs.Lent.{stepOf}
 use Rattle.device.specs.declared.Stepped.{Stepped}
 use Rattle.device.specs.Promise.{eventOn}
@@ -30,7 +30,7 @@ pub lent-frames : LentFrames
 unfolding stepOf
 lent-frames d j h r a k given =
     let e = eventOf h in
-    ap framesIn (given .0) ∙ all-there (eventOn d j e (h .bytes) (bytesIn h) .refusal) _ (event-sends (seen d j) e (h .bytes) (bytesIn h))
+    ap framesIn (given .0) ∙ all-there (eventOn d j e (h .bytes) (lengthIn h) .refusal) _ (event-sends (seen d j) e (h .bytes) (lengthIn h))
 
 pub power-on-frames : PowerOnFrames
 power-on-frames node identity j r given =

@@ -13,8 +13,8 @@ use Rattle.rules.specs.Journal.{blankBlocks}
 use Rattle.promises.specs.Calls.{History}
 
 -- in any history: the filled blocks of the record, where the last call was accepted, and those that a power-on would count, where it is accepted
-abbrev pub Counted : Type 0
-Counted =
+abbrev pub CallsCounted : Type 0
+CallsCounted =
     (blocks : ℕ) (frames : List Frame) (r : Answer) (d : Device) (k : List ℕ) →
     History (blankBlocks blocks) frames r d k →
     (r .refusal ≡ 0 → d .saves .filled ≡ acknowledged frames)

@@ -14,8 +14,8 @@ use Rattle.promises.specs.Calls.{Call, Calls, History}
 use Rattle.promises.specs.TwoFrames.{framesIn}
 
 -- a call beside any record and any journal: outside the next block, the one behind the record's filled blocks, every byte is as it was
-abbrev pub OutsideTheNextBlock : Type 0
-OutsideTheNextBlock =
+abbrev pub CallsOutsideTheNextBlock : Type 0
+CallsOutsideTheNextBlock =
     (d a : Device) (j k : List ℕ) (r : Answer) →
     Call d j r a k →
     (length k ≡ length j)
@@ -23,12 +23,12 @@ OutsideTheNextBlock =
     × ((i : ℕ) → 512 * (d .saves .filled + 1) ≤ i → getD k i 0 ≡ getD j i 0)
 
 -- where its answer acknowledges no save and no load, no byte changes at all
-abbrev pub WithoutAcknowledgement : Type 0
-WithoutAcknowledgement = (d a : Device) (j k : List ℕ) (r : Answer) → Call d j r a k → acknowledged (framesIn r) ≡ 0 → k ≡ j
+abbrev pub CallsWithoutAcknowledgement : Type 0
+CallsWithoutAcknowledgement = (d a : Device) (j k : List ℕ) (r : Answer) → Call d j r a k → acknowledged (framesIn r) ≡ 0 → k ≡ j
 
 -- in a history, whatever calls follow: the length stays, and so do, byte for byte, the blocks that the record names as filled and those that a power-on would count
-abbrev pub WhateverFollows : Type 0
-WhateverFollows =
+abbrev pub WhateverCallsFollow : Type 0
+WhateverCallsFollow =
     (j k l : List ℕ) (frames : List Frame) (r : Answer) (d a : Device) →
     History j frames r d k → Calls d k a l →
     (length l ≡ length k)

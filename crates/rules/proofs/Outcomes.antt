@@ -25,7 +25,7 @@ use Rattle.rules.specs.declared.requests.Verdict.the-variants.{Pass, Abo
 use Rattle.rules.specs.declared.requests.Zeroed.{Zeroed}
 use Rattle.rules.specs.declared.requests.Zeroed.the-variants.{To, Refused}
 use Rattle.rules.specs.Angle.{offset, zeroed}
-use Rattle.rules.specs.Block.{save, load}
+use Rattle.rules.specs.Block.{saveKind, loadKind}
 use Rattle.rules.specs.Numbers.{between, fourAt, fits, signed}
 use Rattle.rules.specs.Objects.{rowOf, settingRow}
 use Rattle.rules.specs.Requests.{valueFor}
@@ -44,7 +44,7 @@ Allowed u Keep = Unit {0}
 Allowed u (Put s v) = (v < 256 ^ settingRow s .size) × (within s (valued s v) ≡ true)
 Allowed u (Zero a preset offset) = (fits 16 preset ≡ true) × (fits 16 offset ≡ true)
 Allowed u Empty = Unit {0}
-Allowed u (Fill c kind) = (u .saves .filled < u .saves .blocks) × (u .saves .spoiled ≡ 0) × (between save load kind ≡ true)
+Allowed u (Fill c kind) = (u .saves .filled < u .saves .blocks) × (u .saves .spoiled ≡ 0) × (between saveKind loadKind kind ≡ true)
 
 -- the first and the last check pass where the whole chain does
 pub passes-first : (v w : Verdict) → v then w ≡ Pass → v ≡ Pass
@@ -87,7 +87,7 @@ zero-fits x r operating differential preset =
     cond-both ZeroFits (eqb (x .state) good) (cond-each ZeroFits (fits 16 o) (λ e. e) (λ e. tt)) tt
 
 module _ (u : State) where
-  fills : (c : Channel) (kind : ℕ) → between save load kind ≡ true
+  fills : (c : Channel) (kind : ℕ) → between saveKind loadKind kind ≡ true
       → roomCheck (u .saves .spoiled) (u .saves .filled) (u .saves .blocks) ≡ Pass → Allowed u (Fill c kind)
   unfolding roomCheck
   fills c kind does e =
@@ -121,8 +121,8 @@ module _ (u : State) where
   changes c ErrorCount v h p e = tt
   changes c (ErrorEntry n) v h p e = tt
   changes c Name v h p e = tt
-  changes c Save v h p e = fills c save refl e
-  changes c Load v h p e = fills c load refl e
+  changes c Save v h p e = fills c saveKind refl e
+  changes c Load v h p e = fills c loadKind refl e
   changes c Filled v h p e = tt
   changes c (Angle a) v h p e = tt
   changes c (Of s) v h p e = sets c s v h p

@@ -22,12 +22,12 @@ use Rattle.rules.specs.declared.requests.Change.{Change}
 use Rattle.rules.specs.declared.requests.Change.the-variants.{Keep, Put, Zero, Empty, Fill}
 use Rattle.rules.specs.declared.requests.Outcome.{Outcome}
 use Rattle.rules.specs.declared.settings.Settings.{Settings}
-use Rattle.rules.specs.Block.{block, channelNumber, load, mostBlocks}
+use Rattle.rules.specs.Block.{block, channelNumber, loadKind, mostBlocks}
 use Rattle.rules.specs.Events.{journalFits}
 use Rattle.rules.specs.Numbers.{between, fits}
 use Rattle.rules.specs.Objects.{sameSetting}
 use Rattle.rules.specs.Ranges.{inRange, savesOk, errorsOk, elapsedOk, countsOk, transferOk}
-use Rattle.rules.specs.Service.{Kept, after, outcome, putPdo, runningAfter, onErrors, keptIn, onKept, stores, storing, onHeartbeat, onCounts, onTransfer}
+use Rattle.rules.specs.Service.{Kept, stateAfter, outcome, putPdo, runningAfter, onErrors, keptIn, onKept, stores, storing, onHeartbeat, onCounts, onTransfer}
 use Rattle.rules.specs.Settings.{Held, every, inTable, setting, within}
 use Rattle.rules.specs.State.{State, absent, transferring, place, transferOf}
 use Rattle.rules.proofs.Block.{block-length}
@@ -113,7 +113,7 @@ module _ (u : State) (r : InRange u) where
 
     -- what is stored is within the object table, as the running settings and factory are
     stored-in : (kind : ℕ) → inTable (storing kind (u .running)) ≡ true
-    stored-in kind = cond-both (λ (t : Settings). inTable t ≡ true) (eqb kind load) factory-in (r .running)
+    stored-in kind = cond-both (λ (t : Settings). inTable t ≡ true) (eqb kind loadKind) factory-in (r .running)
 
     fill-in : (c : Channel) (kind : ℕ) → Allowed u (Fill c kind) → Fits (onKept (Fill c kind) (storing kind (u .running)) (keptIn u))
     fill-in c kind a =
@@ -146,11 +146,11 @@ module _ (u : State) (r : InRange u) where
     own : (c : Channel) → transferOk (transferOf c u) ≡ true
     own c = every-get transferOk (transferring absent) refl (u .transfers) (right (eqb (length (u .transfers)) 2) (every transferOk (u .transfers)) (r .transfers)) (place c)
 
-    pub after-in : (c : Channel) (o : Outcome) → transferOk (o .transfer) ≡ true → Allowed u (o .change) → (inRange (after c o u) ≡ true) × (journalFits (after c o u) ≡ true)
+    pub after-in : (c : Channel) (o : Outcome) → transferOk (o .transfer) ≡ true → Allowed u (o .change) → (inRange (stateAfter c o u) ≡ true) × (journalFits (stateAfter c o u) ≡ true)
     after-in c o t a =
         let e = o .change in
         let k = kept-in e a in (
-          together (after c o u)
+          together (stateAfter c o u)
               (record {
                 node = r .node;
                 network = r .network;
@@ -168,7 +168,7 @@ module _ (u : State) (r : InRange u) where
 
 -- a request's outcome
 pub served-in : (c : Channel) (request : List ℕ) (u : State) → inRange u ≡ true → journalFits u ≡ true
-    → (inRange (after c (outcome c request u) u) ≡ true) × (journalFits (after c (outcome c request u) u) ≡ true)
+    → (inRange (stateAfter c (outcome c request u) u) ≡ true) × (journalFits (stateAfter c (outcome c request u) u) ≡ true)
 served-in c request u e fit =
     let r = parts u e in
     after-in u r fit c (outcome c request u) (transfer-in u c request (own u r fit c)) (allowed u c request)

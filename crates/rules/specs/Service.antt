@@ -30,14 +30,14 @@ use Rattle.rules.specs.declared.requests.Verdict.{Verdict}
 use Rattle.rules.specs.declared.requests.Verdict.the-variants.{Pass, Abort}
 use Rattle.rules.specs.declared.settings.PdoSettings.{PdoSettings}
 use Rattle.rules.specs.declared.settings.Settings.{Settings}
-use Rattle.rules.specs.Block.{block, channelNumber, load}
+use Rattle.rules.specs.Block.{block, channelNumber, loadKind}
 use Rattle.rules.specs.Errors.{noErrors}
 use Rattle.rules.specs.Journal.{putBehind}
 use Rattle.rules.specs.Numbers.{signed}
 use Rattle.rules.specs.Objects.{sameSetting, ofPdo, objectAt}
 use Rattle.rules.specs.Reads.{readOf}
 use Rattle.rules.specs.Replies.{written, readNumber, readText, aborted, firstSegment, lastSegment, wrongToggle, noTransfer}
-use Rattle.rules.specs.Requests.{command, index, subindex, valueFor}
+use Rattle.rules.specs.Requests.{command, indexOf, subindexOf, valueFor}
 use Rattle.rules.specs.Settings.{factory, axisSettings, pdoSettings, withAxis, withPdo}
 use Rattle.rules.specs.State.{State, operational, preOperational, absent, atStart, afterSeven, transferring, noCounts, transferOf}
 use Rattle.rules.specs.Writes.{change, writeCheck}
@@ -96,7 +96,7 @@ served network = eqb network preOperational || eqb network operational
 abbrev pub outcome : Channel → List ℕ → State → Outcome
 outcome c request u =
     cond (served (u .network))
-    (onCommand c request (command request) (objectAt (index request) (subindex request)) u)
+    (onCommand c request (command request) (objectAt (indexOf request) (subindexOf request)) u)
     (silent (transferOf c u))
 
 -- a written value in its setting; bit 31 of 1800:1 is "off"
@@ -141,7 +141,7 @@ onErrors (Fill c kind) x = x
 
 -- what is stored: "A save fills the next block with running settings, a load with factory settings"
 abbrev pub storing : ℕ → Settings → Settings
-storing kind t = cond (eqb kind load) factory t
+storing kind t = cond (eqb kind loadKind) factory t
 
 -- the settings that stand beside a change, factory where it stores none
 abbrev pub stores : Change → Settings → Settings
@@ -196,8 +196,8 @@ onTransfer Two One next x = x
 onTransfer Two Two next x = next
 
 -- the state after an outcome on a channel
-abbrev pub after : Channel → Outcome → State → State
-after c o u =
+abbrev pub stateAfter : Channel → Outcome → State → State
+stateAfter c o u =
     let e = o .change in
     let kept = onKept e (stores e (u .running)) (keptIn u) in
     record {

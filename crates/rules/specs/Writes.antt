@@ -18,7 +18,7 @@ use Rattle.rules.specs.declared.requests.Verdict.the-variants.{Pass, Abo
 use Rattle.rules.specs.declared.requests.Zeroed.{Zeroed}
 use Rattle.rules.specs.declared.requests.Zeroed.the-variants.{To, Refused}
 use Rattle.rules.specs.Angle.{zeroed}
-use Rattle.rules.specs.Block.{save, load}
+use Rattle.rules.specs.Block.{saveKind, loadKind}
 use Rattle.rules.specs.Frames.{pdoAt}
 use Rattle.rules.specs.Numbers.{signed}
 use Rattle.rules.specs.Objects.{rowOf}
@@ -112,8 +112,8 @@ writeOf (Const f) v u = readOnlyWrite
 writeOf ErrorCount v u = valueWrite (eqb v 0) Empty
 writeOf (ErrorEntry n) v u = readOnlyWrite
 writeOf Name v u = readOnlyWrite
-writeOf Save v u = fillWrite (eqb v 0x65766173) save u
-writeOf Load v u = fillWrite (eqb v 0x64616F6C) load u
+writeOf Save v u = fillWrite (eqb v 0x65766173) saveKind u
+writeOf Load v u = fillWrite (eqb v 0x64616F6C) loadKind u
 writeOf Filled v u = readOnlyWrite
 writeOf (Angle a) v u = readOnlyWrite
 writeOf (Of s) v u = settingWrite s v u
