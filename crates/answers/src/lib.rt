@@ -7,7 +7,7 @@ ghost use Rattle.rules.specs.Frames.{pdoFrame, replyFrame};
 ghost use Rattle.rules.specs.Network;
 ghost use Rattle.rules.specs.Ranges.{axisOk};
 ghost use Rattle.rules.specs.Settings.{inTable};
-ghost use Rattle.rules.specs.Time.{when};
+ghost use Rattle.rules.specs.Time.{whenDue};
 ghost use Rattle.answers.specs.Answers.{answering};
 use rules::events::Frame;
 use rules::objects::Channel;
@@ -72,7 +72,7 @@ pub fn timed(
     s: Settings,
 ) -> Answer
     requires { ⌜ (inTable s ≡ true) × ((axisOk x ≡ true) × (axisOk y ≡ true)) ⌝ }
-    ensures { λ r. ⌜ r ≡ answering 0 (when beats (Frames.heartbeat node network) ++ when sends (pdoFrame number node x y s)) ⌝ }
+    ensures { λ r. ⌜ r ≡ answering 0 (whenDue beats (Frames.heartbeatFrame node network) ++ whenDue sends (pdoFrame number node x y s)) ⌝ }
 {
     if !sends {
         if beats {

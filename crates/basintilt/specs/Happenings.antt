@@ -17,5 +17,5 @@ eventOf h =
     (cond (eqb (h .kind) 4) (Measured Y (h .m))
     (Received (record { identifier = 0; remote = true }))))))
 
-abbrev pub bytesIn : Happening → ℕ
-bytesIn h = cond (leb (h .kind) 4) (h .length) 0
+abbrev pub lengthIn : Happening → ℕ
+lengthIn h = cond (leb (h .kind) 4) (h .length) 0

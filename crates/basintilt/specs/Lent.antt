@@ -9,11 +9,11 @@ use Rattle.device.specs.declared.Device.{Device}
 use Rattle.device.specs.declared.Stepped.{Stepped}
 use Rattle.rules.specs.Results.{Result}
 use Rattle.basintilt.specs.declared.Happening.{Happening}
-use Rattle.basintilt.specs.Happenings.{eventOf, bytesIn}
+use Rattle.basintilt.specs.Happenings.{eventOf, lengthIn}
 
 -- what the rules say of a happening on a record and a lent journal
 abbrev happened : Device → List ℕ → Happening → Result
-happened d j h = eventOn d j (eventOf h) (h .bytes) (bytesIn h)
+happened d j h = eventOn d j (eventOf h) (h .bytes) (lengthIn h)
 
 -- the new record with the answer, and the journal then
 unfoldable pub stepOf : Device → List ℕ → Happening → Stepped

@@ -11,7 +11,7 @@ use Rattle.rules.specs.declared.objects.Channel.{Channel}
 use Rattle.rules.specs.declared.requests.Change.{Change}
 use Rattle.rules.specs.declared.requests.Change.the-variants.{Keep, Put, Zero, Empty, Fill}
 use Rattle.rules.specs.declared.settings.Settings.{Settings}
-use Rattle.rules.specs.Block.{load}
+use Rattle.rules.specs.Block.{loadKind}
 use Rattle.rules.specs.Service.{outcome}
 use Rattle.rules.specs.Settings.{inTable}
 use Rattle.rules.specs.State.{State}
@@ -28,7 +28,7 @@ module _ (u : State) (table : inTable (u .running) ≡ true) (whole : length (u 
   asked (Fill c kind) a = record {
     fitting = tt;
     room = a .0;
-    fillable = (omega (arith, a .0), cond-both (λ (t : Settings). inTable t ≡ true) (eqb kind load) factory-in table);
+    fillable = (omega (arith, a .0), cond-both (λ (t : Settings). inTable t ≡ true) (eqb kind loadKind) factory-in table);
   }
 
   pub possible : (c : Channel) (request : List ℕ) → Possible u (outcome c request u .change)

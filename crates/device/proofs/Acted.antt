@@ -9,7 +9,7 @@ use Rattle.rules.specs.declared.parts.Transfer.{Transfer}
 use Rattle.rules.specs.declared.requests.Change.{Change}
 use Rattle.rules.specs.declared.requests.Change.the-variants.{Keep, Put, Zero, Empty, Fill}
 use Rattle.rules.specs.declared.requests.Outcome.{Outcome}
-use Rattle.rules.specs.Service.{stores, after}
+use Rattle.rules.specs.Service.{stores, stateAfter}
 use Rattle.service.specs.Transfers.{transfersAfter}
 use Rattle.device.specs.declared.Device.{Device}
 use Rattle.device.specs.Changed.{changed}
@@ -31,7 +31,7 @@ withTransfer c t d = record {
   transfers = transfersAfter c t (d .transfers);
 }
 
-pub acted : (c : Channel) (o : Outcome) (d : Device) → changed (o .change) (withTransfer c (o .transfer) d) ≡ held (after c o (alone d))
+pub acted : (c : Channel) (o : Outcome) (d : Device) → changed (o .change) (withTransfer c (o .transfer) d) ≡ held (stateAfter c o (alone d))
 acted c o d = refl
 
 -- by the change: the record moves alike beside any journal, and the journal is written by a fill alone
@@ -39,14 +39,14 @@ module _ (c : Channel) (replies : Bool) (bytes : List ℕ) (t : Transfer) (d : D
   abbrev by : Change → Outcome
   by e = record { replies = replies; bytes = bytes; transfer = t; change = e }
 
-  pub record-beside : (e : Change) → held (after c (by e) (seen d j)) ≡ held (after c (by e) (alone d))
+  pub record-beside : (e : Change) → held (stateAfter c (by e) (seen d j)) ≡ held (stateAfter c (by e) (alone d))
   record-beside Keep = refl
   record-beside (Put s v) = refl
   record-beside (Zero a preset offset) = refl
   record-beside Empty = refl
   record-beside (Fill b kind) = refl
 
-  pub journal-beside : (e : Change) → after c (by e) (seen d j) .journal ≡ journalAfter (d .saves .filled) e (stores e (d .running)) j
+  pub journal-beside : (e : Change) → stateAfter c (by e) (seen d j) .journal ≡ journalAfter (d .saves .filled) e (stores e (d .running)) j
   journal-beside Keep = refl
   journal-beside (Put s v) = refl
   journal-beside (Zero a preset offset) = refl

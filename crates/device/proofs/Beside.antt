@@ -7,7 +7,7 @@ use lib.Dec.{eqb}
 use lib.IntN.{ℤ}
 use Rattle.rules.specs.declared.objects.Axis.{Axis}
 use Rattle.rules.specs.declared.objects.Axis.the-variants.{X, Y}
-use Rattle.rules.specs.Network.{start, onCommand}
+use Rattle.rules.specs.Network.{start, onNetworkCommand}
 use Rattle.rules.specs.Ranges.{inRange}
 use Rattle.rules.specs.Readings.{onReading}
 use Rattle.rules.specs.Results.{Result}
@@ -48,8 +48,8 @@ module _ (d : Device) (j : List ℕ) where
   reading-beside X m = record { same = refl; kept = refl }
   reading-beside Y m = record { same = refl; kept = refl }
 
-  pub command-beside : (command : ℕ) → Beside j (onCommand command (seen d j)) (onCommand command (alone d))
-  unfolding onCommand start
+  pub command-beside : (command : ℕ) → Beside j (onNetworkCommand command (seen d j)) (onNetworkCommand command (alone d))
+  unfolding onNetworkCommand start
   command-beside command =
       either j (eqb command 0x01) (record { same = refl; kept = refl })
       (either j (eqb command 0x02) (record { same = refl; kept = refl })

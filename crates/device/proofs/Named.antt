@@ -13,7 +13,7 @@ use Rattle.rules.specs.declared.events.FrameHead.{FrameHead}
 use Rattle.rules.specs.declared.objects.Channel.the-variants.{One, Two}
 use Rattle.rules.specs.Events.{frameOk, onService, onFrame, onEvent}
 use Rattle.rules.specs.Frames.{requestsAt}
-use Rattle.rules.specs.Network.{onCommand, onNetwork}
+use Rattle.rules.specs.Network.{onNetworkCommand, onNetwork}
 use Rattle.rules.specs.Results.{Result, ignored, refused}
 use Rattle.rules.specs.State.{State}
 use Rattle.rules.specs.Time.{onSync}
@@ -25,7 +25,7 @@ module _ (bytes : List ℕ) (length : ℕ) (u : State) where
   abbrev pub does : Rule → Result
   does Wrong = refused 2 u
   does Nothing = ignored u
-  does (Network command) = onCommand command u
+  does (Network command) = onNetworkCommand command u
   does Sync = onSync u
   does (Request c) = requested c bytes u
 
@@ -41,7 +41,7 @@ module _ (bytes : List ℕ) (length : ℕ) (u : State) where
   requests false false false = refl
 
   frames : (fine remote network own sync whole one two : Bool) (command : ℕ)
-      → cond fine (cond remote (ignored u) (cond network (cond own (onCommand command u) (ignored u)) (cond sync (onSync u)
+      → cond fine (cond remote (ignored u) (cond network (cond own (onNetworkCommand command u) (ignored u)) (cond sync (onSync u)
       (cond one (cond whole (requested One bytes u) (ignored u)) (cond two (cond whole (requested Two bytes u) (ignored u)) (ignored u)))))) (refused 2 u)
       ≡ does (cond fine (cond remote Nothing (cond network (cond own (Network command) Nothing) (cond sync Sync (cond whole (cond one (Request One) (cond two (Request Two) Nothing)) Nothing)))) Wrong)
   frames false remote network own sync whole one two command = refl

@@ -1,5 +1,5 @@
 -- A request sees of the record all that its outcome depends on.
-use mathlib.Core.Path.{_≡_, refl}
+use mathlib.Core.Path.{_≡_, refl, ap}
 use mathlib.Core.List.{List}
 use Prim.Native.Nat.{ℕ}
 use Rattle.rules.specs.declared.objects.Axis.the-variants.{X, Y}
@@ -13,12 +13,12 @@ use Rattle.rules.specs.declared.objects.Setting.{Setting}
 use Rattle.rules.specs.declared.objects.Setting.the-variants.{Heartbeat, Pdo, Resolution, Operating, Preset, Offset, Differential}
 use Rattle.rules.specs.declared.requests.Command.{Command}
 use Rattle.rules.specs.declared.requests.Command.the-variants.{Write, Read, Segment, End, Unknown}
-use Rattle.rules.specs.Objects.{objectAt}
+use Rattle.rules.specs.Objects.{rowOf, objectAt}
 use Rattle.rules.specs.Reads.{readOf}
-use Rattle.rules.specs.Requests.{command, index, subindex, valueFor}
-use Rattle.rules.specs.Service.{onCommand, outcome}
+use Rattle.rules.specs.Requests.{command, indexOf, subindexOf, valueFor}
+use Rattle.rules.specs.Service.{onWrite, onCommand, outcome}
 use Rattle.rules.specs.State.{State, transferOf}
-use Rattle.rules.specs.Writes.{settingWrite, write}
+use Rattle.rules.specs.Writes.{WriteRow, _then_, unless, lengthCheck, settingWrite, writeOf}
 use Rattle.view.specs.Seen as view
 use Rattle.device.specs.declared.Device.{Device}
 use Rattle.device.specs.Seen.{seen}
@@ -27,7 +27,7 @@ use Rattle.device.specs.Views.{viewOf}
 module _ (c : Channel) (d : Device) (j : List ℕ) where
   -- the view's state, and the record's beside the journal
   abbrev looked : State
-  looked = view.seen (viewOf c d)
+  looked = view.viewed (viewOf c d)
 
   abbrev whole : State
   whole = seen d j
@@ -54,7 +54,7 @@ module _ (c : Channel) (d : Device) (j : List ℕ) where
   setting-alike (Offset a) v = refl
   setting-alike (Differential a) v = refl
 
-  write-alike : (o : Object) (v : ℕ) → write o v looked ≡ write o v whole
+  write-alike : (o : Object) (v : ℕ) → writeOf o v looked ≡ writeOf o v whole
   write-alike (Const f) v = refl
   write-alike ErrorCount v = refl
   write-alike (ErrorEntry n) v = refl
@@ -65,13 +65,15 @@ module _ (c : Channel) (d : Device) (j : List ℕ) where
   write-alike (Angle a) v = refl
   write-alike (Of s) v = setting-alike s v
 
-transfer-alike : (c : Channel) (d : Device) (j : List ℕ) → transferOf c (view.seen (viewOf c d)) ≡ transferOf c (seen d j)
+transfer-alike : (c : Channel) (d : Device) (j : List ℕ) → transferOf c (view.viewed (viewOf c d)) ≡ transferOf c (seen d j)
 transfer-alike One d j = refl
 transfer-alike Two d j = refl
 
 module _ (c : Channel) (request : List ℕ) (d : Device) (j : List ℕ) where
-  command-alike : (k : Command) (f : Found) → onCommand c request k f (view.seen (viewOf c d)) ≡ onCommand c request k f (seen d j)
-  command-alike (Write given) (At o) = rw (write-alike c d j o (valueFor o request))
+  command-alike : (k : Command) (f : Found) → onCommand c request k f (view.viewed (viewOf c d)) ≡ onCommand c request k f (seen d j)
+  command-alike (Write given) (At o) =
+      ap (λ (w : WriteRow). onWrite request (unless (rowOf o .writable) 0x06010002 then lengthCheck given (rowOf o .size) then w .value then w .state) (w .change c))
+      (write-alike c d j o (valueFor o request))
   command-alike (Write given) NoObject = refl
   command-alike (Write given) NoSubindex = refl
   command-alike Read (At o) = rw (read-alike c d j o)
@@ -81,5 +83,5 @@ module _ (c : Channel) (request : List ℕ) (d : Device) (j : List ℕ) where
   command-alike End f = refl
   command-alike Unknown f = refl
 
-  pub outcome-alike : outcome c request (view.seen (viewOf c d)) ≡ outcome c request (seen d j)
-  outcome-alike = rw (command-alike (command request) (objectAt (index request) (subindex request)), transfer-alike c d j)
+  pub outcome-alike : outcome c request (view.viewed (viewOf c d)) ≡ outcome c request (seen d j)
+  outcome-alike = rw (command-alike (command request) (objectAt (indexOf request) (subindexOf request)), transfer-alike c d j)

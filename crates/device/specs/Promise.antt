@@ -18,8 +18,8 @@ PoweredOn node identity j r = r ≡ steppedOf (powerOn node identity j)
 
 -- what the rules say of an event on a record and a lent journal
 abbrev pub eventOn : Device → List ℕ → Event → List ℕ → ℕ → Result
-eventOn d j e bytes length = event e bytes length (seen d j)
+eventOn d j e bytes size = event e bytes size (seen d j)
 
 abbrev pub Answered : Device → List ℕ → Event → List ℕ → ℕ → Stepped → List ℕ → Type 0
-Answered d j e bytes length r j′ =
-    (r ≡ steppedOf (eventOn d j e bytes length)) × (j′ ≡ eventOn d j e bytes length .state .journal)
+Answered d j e bytes size r j′ =
+    (r ≡ steppedOf (eventOn d j e bytes size)) × (j′ ≡ eventOn d j e bytes size .state .journal)

@@ -48,4 +48,4 @@ Ranged d = inRange (alone d) ≡ true
 
 -- the refusal that the record, or the length of its journal, brings to any event; 0 where it is none
 abbrev pub refusalOf : ℕ → State → ℕ
-refusalOf length u = cond (inRange u) (cond (eqb length (512 * u .saves .blocks)) 0 1) 3
+refusalOf size u = cond (inRange u) (cond (eqb size (512 * u .saves .blocks)) 0 1) 3

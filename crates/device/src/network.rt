@@ -11,9 +11,9 @@ ghost use mathlib.Core.Bool.{cond};
 ghost use mathlib.Core.List.{[], _∷_};
 ghost use lib.Dec.{eqb};
 ghost use Rattle.rules.specs.Errors.{noErrors, entered};
-ghost use Rattle.rules.specs.Frames.{bootUp};
+ghost use Rattle.rules.specs.Frames.{bootUpFrame};
 ghost use Rattle.rules.specs.Network;
-ghost use Rattle.rules.specs.Network.{communicating, onCommand};
+ghost use Rattle.rules.specs.Network.{communicating, onNetworkCommand};
 ghost use Rattle.rules.specs.Results.{accepted};
 ghost use Rattle.device.specs.Answers.{steppedOf};
 ghost use Rattle.device.specs.Seen.{alone};
@@ -58,7 +58,7 @@ impl Device {
 
     // 82h: 1017 and 1800 from the stored settings.
     fn communicate(mut self) -> Stepped
-        ensures { λ r. ⌜ r ≡ steppedOf (accepted (communicating (alone self)) (bootUp (self .node) ∷ [])) ⌝ }
+        ensures { λ r. ⌜ r ≡ steppedOf (accepted (communicating (alone self)) (bootUpFrame (self .node) ∷ [])) ⌝ }
     {
         let pdo = self.saves.stored.pdo;
         let mut running = self.running;
@@ -77,7 +77,7 @@ impl Device {
     }
 
     pub(crate) fn command(mut self, command: u8) -> Stepped
-        ensures { λ r. ⌜ r ≡ steppedOf (onCommand command (alone self)) ⌝ }
+        ensures { λ r. ⌜ r ≡ steppedOf (onNetworkCommand command (alone self)) ⌝ }
     {
         match command {
             0x01 => {

@@ -4,7 +4,7 @@ ghost use mathlib.Core.Bool.{true, cond};
 ghost use Prim.Native.Nat.{_≤_};
 ghost use Rattle.rules.specs.Errors;
 ghost use Rattle.rules.specs.Frames;
-ghost use Rattle.rules.specs.Frames.{noFrame, bootUp, pdoAt, pdoFrame, replyFrame, requestsAt, repliesAt};
+ghost use Rattle.rules.specs.Frames.{noFrame, bootUpFrame, pdoAt, pdoFrame, replyFrame, requestsAt, repliesAt};
 ghost use Rattle.rules.specs.declared.objects.Setting.the-variants.{Resolution};
 ghost use Rattle.rules.specs.Angle.{shown};
 ghost use Rattle.rules.specs.Numbers.{unsigned};
@@ -37,7 +37,7 @@ pub fn none() -> Frame
 }
 
 pub fn heartbeat(node: u8, network: u8) -> Frame
-    ensures { λ r. ⌜ r ≡ Frames.heartbeat node network ⌝ }
+    ensures { λ r. ⌜ r ≡ Frames.heartbeatFrame node network ⌝ }
 {
     Frame {
         identifier: HEARTBEAT_AT + (node as u16),
@@ -47,13 +47,13 @@ pub fn heartbeat(node: u8, network: u8) -> Frame
 }
 
 pub fn boot_up(node: u8) -> Frame
-    ensures { λ r. ⌜ r ≡ bootUp node ⌝ }
+    ensures { λ r. ⌜ r ≡ bootUpFrame node ⌝ }
 {
     heartbeat(node, 0)
 }
 
 pub fn emergency(node: u8, code: u16, register: u8) -> Frame
-    ensures { λ r. ⌜ r ≡ Frames.emergency node code register ⌝ }
+    ensures { λ r. ⌜ r ≡ Frames.emergencyFrame node code register ⌝ }
 {
     let low = numbers::low(code);
     let high = numbers::high(code);

@@ -46,7 +46,7 @@ module _ (c : Channel) (f : RunFrame) (u : State) (h : NotRefused u) where
       node-by false = refl
 
 -- so the frames in turns do what `does` says
-runs : (node : ℕ) (turns : List Turn) (u : State) → node ≡ u .node → NotRefused u →
+pub runs : (node : ℕ) (turns : List Turn) (u : State) → node ≡ u .node → NotRefused u →
     (endOf event node turns u ≡ endIn turns u) × ((c : Channel) → answers event node c turns u ≡ answersIn c turns u)
 unfolding endOf answers endIn answersIn
 runs node [] u p h = (refl, λ c. refl)

@@ -1,12 +1,5 @@
--- The examples, computed.
-use mathlib.Core.Path.{_≡_, refl, ap, subst₂}
-use mathlib.Core.Bool.{Bool, true, false, _&&_, _||_}
-use mathlib.Core.List.{List, [], _∷_}
-use Prim.Native.Nat.{ℕ}
-use native.Mathlib.Omega.{arith}
-use lib.Dec.{T, eqb, eqb→eq}
-use lib.ListN.{getD}
-use Rattle.laws.proofs.Bools.{parts}
+-- The example, computed.
+use mathlib.Core.Path.{refl}
 use Rattle.rules.specs.Angle.{q, sum, angle}
 use Rattle.rules.specs.Block.{body, block}
 use Rattle.rules.specs.Events.{onService, onFrame, event}
@@ -14,71 +7,15 @@ use Rattle.rules.specs.Numbers.{twoAt, fourAt}
 use Rattle.rules.specs.Objects.{find}
 use Rattle.rules.specs.Ranges.{errorsOk, axisOk, inRange}
 use Rattle.rules.specs.Reads.{angleRead}
-use Rattle.rules.specs.ReadsWrites.{Value, object, journal, same, reads, writes}
 use Rattle.rules.specs.Replies.{reply}
 use Rattle.rules.specs.Requests.{commandOf}
 use Rattle.rules.specs.Settings.{inTable}
 use Rattle.rules.specs.Writes.{lengthCheck, roomCheck}
-use Rattle.interleaving.specs.Demand3.{FramesApart, Each}
-use Rattle.interleaving.specs.Examples.{device, writeType, writeTimer, load, readAngle, readFilled, cutShort, twos, WriteAndRead, AnswersDiffer, JournalsDiffer}
-use Rattle.interleaving.specs.Runs.{RunFrame, Answer, only, endOf, answers}
-
--- what a request reads or writes
-abbrev used : RunFrame → Value → Bool
-used f v = reads (f .bytes) v || writes (f .bytes) v
-
--- a write of one object, and one of the journal too, spares a request that uses neither
-module _ (f : RunFrame) (i s : ℕ) (free : T (used f (object i s)) → ⊥) where
-  there : (j t : ℕ) → T (same (object j t) (object i s) || false) → T (used f (object j t)) → T (used f (object i s))
-  there j t p u =
-      let n = parts (eqb j i) (eqb t s) (alone (eqb j i && eqb t s) p) in
-      subst₂ (λ (i s : ℕ). T (used f (object i s))) (eqb→eq j i (n .0)) (eqb→eq t s (n .1)) u
-    where
-      alone : (b : Bool) → T (b || false) → T b
-      alone true p = tt
-      alone false p = p
-
-  object-spares : (v : Value) → T (same v (object i s) || false) → T (used f v) → ⊥
-  object-spares (object j t) p u = free (there j t p u)
-  object-spares journal p u = p
-
-  journal-spares : (T (used f journal) → ⊥) → (v : Value) → T (same v (object i s) || same v journal) → T (used f v) → ⊥
-  journal-spares h (object j t) p u = free (there j t p u)
-  journal-spares h journal p u = h u
-
-type-apart : Each (FramesApart writeType) twos
-unfolding commandOf twoAt
-type-apart =
-    let cut : FramesApart writeType cutShort = λ p q. absurd q in
-    let timer : FramesApart writeType writeTimer = λ p q. (object-spares writeTimer 0x1800 2 (λ u. u), object-spares writeType 0x1800 5 (λ u. u)) in
-    let loads : FramesApart writeType load = λ p q. (object-spares load 0x1800 2 (λ u. u), journal-spares writeType 0x1011 1 (λ u. u) (λ u. u)) in
-    let filled : FramesApart writeType readFilled = λ p q. (object-spares readFilled 0x1800 2 (λ u. u), λ v w u. w) in
-    (cut, (timer, (loads, (filled, tt))))
-
-angle-apart : Each (FramesApart readAngle) twos
-unfolding commandOf twoAt
-angle-apart =
-    let cut : FramesApart readAngle cutShort = λ p q. absurd q in
-    let timer : FramesApart readAngle writeTimer = λ p q. (λ v w u. w, object-spares readAngle 0x1800 5 (λ u. u)) in
-    let loads : FramesApart readAngle load = λ p q. (λ v w u. w, journal-spares readAngle 0x1011 1 (λ u. u) (λ u. u)) in
-    let filled : FramesApart readAngle readFilled = λ p q. (λ v w u. w, λ v w u. w) in
-    (cut, (timer, (loads, (filled, tt))))
+use Rattle.interleaving.proofs.Apart.{runs-apart}
+use Rattle.interleaving.specs.Device.{device}
+use Rattle.interleaving.specs.Examples.{ones, twos, WriteAndRead}
+use Rattle.interleaving.specs.Runs.{only, endOf, answers}
 
 pub write-and-read : WriteAndRead
 unfolding only endOf answers event device inRange inTable errorsOk axisOk onFrame onService commandOf twoAt fourAt find lengthCheck roomCheck body block reply angleRead angle sum q
-write-and-read = ((refl, refl), (type-apart, (angle-apart, tt)), (refl, refl), refl, refl, refl, refl)
-
--- the fifth byte of the first answer
-fifth : List Answer → ℕ
-fifth [] = 0
-fifth ((n, []) ∷ l) = 0
-fifth ((n, f ∷ fs) ∷ l) = getD (f .bytes) 4 0
-
-pub answers-differ : AnswersDiffer
-unfolding fifth answers event device inRange inTable errorsOk axisOk onFrame onService commandOf twoAt fourAt find lengthCheck reply angleRead angle sum q
-answers-differ = (λ h. h tt tt .0 (object 0x6000 0) tt tt, λ e. let z : _≡_ {A = ℕ} 0x39 0xD2 = ap fifth e in omega arith)
-
--- a block's fifth byte is its channel
-pub journals-differ : JournalsDiffer
-unfolding endOf event device inRange inTable errorsOk axisOk onFrame onService commandOf twoAt fourAt find lengthCheck roomCheck body block reply
-journals-differ = (λ h. h tt tt .0 journal tt tt, λ e. let z : _≡_ {A = ℕ} 1 2 = ap (λ (j : List ℕ). getD j 4 0) e in omega arith)
+write-and-read = ((refl, refl), runs-apart ones twos refl, (refl, refl), refl, refl, refl, refl)

@@ -1,4 +1,15 @@
+pub mod Table
+pub mod Members
+pub mod Cells
+pub mod Acts
+pub mod Uses
+pub mod Depends
+pub mod Leaves
+pub mod Diamond
 pub mod Sorted
 pub mod Demand3
 pub mod Constant
+pub mod Each
+pub mod Apart
 pub mod Examples
+pub mod Order

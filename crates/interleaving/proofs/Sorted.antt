@@ -3,18 +3,18 @@ use mathlib.Core.Path.{_≡_, refl, ap, ap₂, _∙_}
 use mathlib.Core.Bool.{Bool, true, false, cond}
 use mathlib.Core.List.{List, [], _∷_}
 use lib.Dec.{T, leb}
-use Rattle.rules.proofs.Cells.{sameChannel}
-use Rattle.rules.proofs.Diamond.{outcome-past, diamond}
 use Rattle.rules.specs.declared.objects.Channel.{Channel}
 use Rattle.rules.specs.declared.objects.Channel.the-variants.{One, Two}
 use Rattle.rules.specs.declared.requests.Outcome.{Outcome}
 use Rattle.rules.specs.Events.{answered}
 use Rattle.rules.specs.Frames.{replyFrame}
-use Rattle.rules.specs.ReadsWrites.{Apart}
 use Rattle.rules.specs.Results.{Result}
 use Rattle.rules.specs.Service.{outcome}
 use Rattle.rules.specs.State.{State}
+use Rattle.interleaving.proofs.Diamond.{outcome-past, diamond}
+use Rattle.interleaving.proofs.Uses.{sameChannel}
 use Rattle.interleaving.specs.Demand3.{isRequest, FramesApart, Each, RunsApart}
+use Rattle.interleaving.specs.ReadsWrites.{Apart}
 use Rattle.interleaving.specs.Runs.{RunFrame, Turn, turn, add, only, Interleaves, Answer}
 
 -- what a frame does where nothing is refused with 3 or 1, by whether it is a request

@@ -8,8 +8,8 @@ use lib.Dec.{T, eqb}
 use Rattle.rules.specs.declared.events.Frame.{Frame}
 use Rattle.rules.specs.declared.objects.Channel.the-variants.{One, Two}
 use Rattle.rules.specs.Events.{NotRefused, event}
-use Rattle.rules.specs.ReadsWrites.{Apart}
 use Rattle.rules.specs.State.{State}
+use Rattle.interleaving.specs.ReadsWrites.{Apart}
 use Rattle.interleaving.specs.Runs.{Sensor, RunFrame, Turn, Interleaves, endOf, answers}
 
 -- "requests of 8 bytes only", "Remote frames … do nothing": any other frame reads and writes nothing
@@ -20,9 +20,9 @@ isRequest f = not (f .remote) && eqb (f .length) 8
 abbrev pub FramesApart : RunFrame → RunFrame → Type 0
 FramesApart f g = T (isRequest f) → T (isRequest g) → Apart (f .bytes) (g .bytes)
 
-abbrev pub Each : (RunFrame → Type 0) → List RunFrame → Type 0
+abbrev pub Each : {A : Type 0} → (A → Type 0) → List A → Type 0
 Each P [] = Unit {0}
-Each P (f ∷ run) = P f × Each P run
+Each P (x ∷ l) = P x × Each P l
 
 abbrev pub RunsApart : List RunFrame → List RunFrame → Type 0
 RunsApart ones twos = Each (λ f. Each (FramesApart f) twos) ones

@@ -8,12 +8,12 @@ use lib.Dec.{leb}
 use lib.ListN.{length}
 use Rattle.texts.proofs.Longer.{beyond, held, longer-by}
 use Rattle.texts.specs.Texts.{textOf}
-use Rattle.lines.specs.Collecting.{Collected, readText}
+use Rattle.lines.specs.Collecting.{Collected, textCollected}
 use Rattle.lines.specs.Reading.{parsed}
 use Rattle.lines.proofs.Long.{too-long}
 
-text-read : (line : List ℕ) (t : Bool) → leb (length line) 32 ≡ t → readText (textOf line) ≡ parsed line
-unfolding readText
+text-read : (line : List ℕ) (t : Bool) → leb (length line) 32 ≡ t → textCollected (textOf line) ≡ parsed line
+unfolding textCollected
 text-read line true e =
     let few : length line ≤ 32 = leb-true (length line) 32 e in
     rw (held line few .1, held line few .0, e)

@@ -13,9 +13,9 @@ use Rattle.plain_lines.specs.declared.Line.the-variants.{Malformed}
 use Rattle.lines.specs.Reading.{parsed}
 
 -- what is held is read; the mark of a longer line is none of the forms
-unfoldable pub readText : Text → Parsed
-readText t = cond (leb (t .length) 32) (parsed (take (t .length) (t .bytes))) (plain Malformed)
+unfoldable pub textCollected : Text → Parsed
+textCollected t = cond (leb (t .length) 32) (parsed (take (t .length) (t .bytes))) (plain Malformed)
 
 -- from the empty text, one byte after the other, for a line of any length
 abbrev pub Collected : Type 0
-Collected = (line : List ℕ) → readText (longerBy line (textOf [])) ≡ parsed line
+Collected = (line : List ℕ) → textCollected (longerBy line (textOf [])) ≡ parsed line

@@ -3,9 +3,9 @@ use frame_lines::Parsed;
 use plain_lines::Line;
 use texts::Text;
 ghost use mathlib.Core.Path.{_≡_};
-ghost use Rattle.lines.specs.Collecting.{readText};
+ghost use Rattle.lines.specs.Collecting.{textCollected};
 ghost use Rattle.lines.specs.Reading;
-ghost use Rattle.lines.specs.Reading.{parsed, refusalOf};
+ghost use Rattle.lines.specs.Reading.{parsed, lineRefusal};
 
 fn form(letter: u8, field: &[u8]) -> Parsed
     ensures { λ r. ⌜ r ≡ Reading.form letter (now (field .entry)) ⌝ }
@@ -27,7 +27,7 @@ pub fn parse(line: &[u8]) -> Parsed
 
 // A line collected byte by byte; none of the forms is longer than what is held.
 pub fn read(text: Text) -> Parsed
-    ensures { λ r. ⌜ r ≡ readText text ⌝ }
+    ensures { λ r. ⌜ r ≡ textCollected text ⌝ }
 {
     let length = text.length;
     let bytes = text.bytes;
@@ -40,7 +40,7 @@ pub fn read(text: Text) -> Parsed
 
 // The refusal that the form of a line earns.
 pub fn refusal(line: Line) -> u8
-    ensures { λ r. ⌜ r ≡ refusalOf line ⌝ }
+    ensures { λ r. ⌜ r ≡ lineRefusal line ⌝ }
 {
     match line {
         Line::PowerOn(_) => 0,

@@ -10,19 +10,19 @@ use Rattle.numerals.proofs.Digits.{and-false}
 use Rattle.numerals.proofs.Long.{decimal-long}
 use Rattle.rules.specs.declared.objects.Axis.{Axis}
 use Rattle.plain_lines.specs.declared.Line.the-variants.{Malformed}
-use Rattle.plain_lines.specs.Reading.{lineOf, measured, powerOn}
+use Rattle.plain_lines.specs.Reading.{lineOf, measuredLine, powerOnLine}
 
 pub same : {A : Type 0} (t : Bool) (a : A) → cond t a a ≡ a
 same true a = refl
 same false a = refl
 
 module _ (s : List ℕ) (long : 29 < length s) where
-  measured-long : (axis : Axis) → measured axis s ≡ Malformed
-  unfolding measured
+  measured-long : (axis : Axis) → measuredLine axis s ≡ Malformed
+  unfolding measuredLine
   measured-long axis =
       let rest : 10 < length (drop 1 s) = simp length-drop (omega arith) in
       rw (decimal-long s (omega arith), decimal-long (drop 1 s) rest, same)
 
   pub line-long : (letter : ℕ) → lineOf letter s ≡ Malformed
-  unfolding lineOf powerOn
+  unfolding lineOf powerOnLine
   line-long letter = simp (ne-eqb (length s) 2 (λ q. omega arith), and-false, decimal-long s (omega arith), measured-long, same)

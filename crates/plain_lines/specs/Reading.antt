@@ -17,8 +17,8 @@ use Rattle.plain_lines.specs.declared.Line.{Line}
 use Rattle.plain_lines.specs.declared.Line.the-variants.{PowerOn, Happens, Malformed}
 
 -- "P and a node of two hex digits"
-unfoldable pub powerOn : List ℕ → Line
-powerOn field = cond (digits 16 field && eqb (length field) 2) (PowerOn (getD (bytesIn field) 0 0)) Malformed
+unfoldable pub powerOnLine : List ℕ → Line
+powerOnLine field = cond (digits 16 field && eqb (length field) 2) (PowerOn (getD (bytesIn field) 0 0)) Malformed
 
 -- "T and 0 to 65,535"
 abbrev pub tickOf : Number → Line
@@ -34,14 +34,14 @@ abbrev pub negative : Axis → Number → Line
 negative axis (Of n) = cond (between 1 (2 ^ 31) n) (Happens (Measured axis (minus n))) Malformed
 negative axis Not = Malformed
 
-unfoldable pub measured : Axis → List ℕ → Line
-measured axis field = cond (eqb (getD field 0 0) 0x2D) (negative axis (decimalIn (drop 1 field))) (positive axis (decimalIn field))
+unfoldable pub measuredLine : Axis → List ℕ → Line
+measuredLine axis field = cond (eqb (getD field 0 0) 0x2D) (negative axis (decimalIn (drop 1 field))) (positive axis (decimalIn field))
 
 -- the letters P, T, X, Y, none of which brings bytes; "line of none of the forms"
 unfoldable pub lineOf : ℕ → List ℕ → Line
 lineOf letter field =
-    cond (eqb letter 0x50) (powerOn field)
+    cond (eqb letter 0x50) (powerOnLine field)
     (cond (eqb letter 0x54) (tickOf (decimalIn field))
-    (cond (eqb letter 0x58) (measured X field)
-    (cond (eqb letter 0x59) (measured Y field)
+    (cond (eqb letter 0x58) (measuredLine X field)
+    (cond (eqb letter 0x59) (measuredLine Y field)
     Malformed)))

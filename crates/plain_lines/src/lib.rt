@@ -16,7 +16,7 @@ pub enum Line {
 const FARTHEST: u32 = 0x80000000;
 
 fn power_on(field: &[u8]) -> Line
-    ensures { λ r. ⌜ r ≡ Reading.powerOn (now (field .entry)) ⌝ }
+    ensures { λ r. ⌜ r ≡ Reading.powerOnLine (now (field .entry)) ⌝ }
 {
     if hex_pairs::hex(field) & (field.len() == 2) {
         return Line::PowerOn(hex_pairs::pair_at(field, 0));
@@ -61,7 +61,7 @@ fn negative(axis: Axis, number: Number) -> Line
 }
 
 fn measured(axis: Axis, field: &[u8]) -> Line
-    ensures { λ r. ⌜ r ≡ Reading.measured axis (now (field .entry)) ⌝ }
+    ensures { λ r. ⌜ r ≡ Reading.measuredLine axis (now (field .entry)) ⌝ }
 {
     if numerals::byte_at(field, 0) == b'-' {
         return negative(axis, numerals::decimal_in(&field[1..]));

@@ -9,8 +9,8 @@ use Rattle.rules.specs.declared.events.Frame.{Frame}
 abbrev pub lineFeed : ℕ
 lineFeed = 0x0A
 
-abbrev pub blank : ℕ
-blank = 0x20
+abbrev pub oneBlank : ℕ
+oneBlank = 0x20
 
 abbrev pub letterR : ℕ
 letterR = 0x52
@@ -29,7 +29,7 @@ pairs (b ∷ bs) = pair b ++ pairs bs
 
 -- "a three-digit identifier, blank"; above FFFh the last three digits
 abbrev pub heading : ℕ → List ℕ
-heading identifier = capital (identifier / 256 % 16) ∷ pair (identifier % 256) ++ blank ∷ []
+heading identifier = capital (identifier / 256 % 16) ∷ pair (identifier % 256) ++ oneBlank ∷ []
 
 -- "bytes"
 abbrev pub frameLine : Frame → List ℕ
@@ -44,4 +44,4 @@ decimal n =
 
 -- "`R`, blank and the number"
 abbrev pub refusalLine : ℕ → List ℕ
-refusalLine n = letterR ∷ blank ∷ decimal n ++ lineFeed ∷ []
+refusalLine n = letterR ∷ oneBlank ∷ decimal n ++ lineFeed ∷ []

@@ -1,34 +1,61 @@
--- Each kind of sensor differs from the rules somewhere: most of them on node 1, powered on with one blank block.
+-- Each kind of sensor differs from the rules somewhere.
 use mathlib.Core.Path.{_≡_, refl, ap, sym, _∙_}
-use mathlib.Core.Bool.{Bool, true, false}
+use mathlib.Core.Bool.{false}
 use mathlib.Core.List.{List, [], _∷_}
 use Prim.Native.Nat.{ℕ, suc}
 use native.Mathlib.Omega.{arith}
-use lib.ListN.{getD}
+use lib.ListN.{length, getD}
 use Rattle.interleaving.specs.Runs.{Sensor}
 use Rattle.rules.proofs.Accepted.{tick-accepted}
 use Rattle.rules.proofs.Frames.{request-received}
 use Rattle.rules.proofs.Refusals.{then-its-kind}
-use Rattle.rules.proofs.Stays.{start-stays}
+use Rattle.rules.proofs.Stays.{event-stays, start-stays}
 use Rattle.rules.specs.declared.events.Event.{Event}
 use Rattle.rules.specs.declared.events.Event.the-variants.{Received, Tick}
 use Rattle.rules.specs.declared.events.Frame.{Frame}
 use Rattle.rules.specs.declared.objects.Channel.{Channel}
-use Rattle.rules.specs.declared.objects.Channel.the-variants.{One}
 use Rattle.rules.specs.declared.parts.Identity.{Identity}
-use Rattle.rules.specs.Events.{onService, onFrame, onEvent, request, NotRefused, event}
+use Rattle.rules.specs.Events.{answered, onService, onFrame, onEvent, request, NotRefused, event}
+use Rattle.rules.specs.Frames.{bootUpFrame}
 use Rattle.rules.specs.Journal.{lengthOk, blankBlocks}
-use Rattle.rules.specs.Network.{onNetwork, onCommand, start}
+use Rattle.rules.specs.Network.{onNetwork, onNetworkCommand, start}
 use Rattle.rules.specs.Numbers.{twoAt}
-use Rattle.rules.specs.Objects.{find}
+use Rattle.rules.specs.Objects.{find, objectAt}
 use Rattle.rules.specs.PowerOn.{powerOn}
 use Rattle.rules.specs.Replies.{reply}
-use Rattle.rules.specs.Requests.{commandOf}
+use Rattle.rules.specs.Requests.{commandOf, command, indexOf, subindexOf}
 use Rattle.rules.specs.Results.{Result}
-use Rattle.rules.specs.Service.{served}
+use Rattle.rules.specs.Service as service
 use Rattle.rules.specs.State.{State}
-use Rattle.promises.specs.KeptOut.{KeptOut, Serves, read2100, filledBlocks, RefusesAll, AnswersAlike, ChangesNothing, WorksOnce, Invents2100, Constant}
+use Rattle.promises.specs.KeptOut.{Meets, KeptOut, Serves, replies, read2100, filledBlocks, RefusesAll, AnswersAlike, AnswersEach, ChangesNothing, WorksOnce, Invents2100, Constant}
 
+abbrev state : Result → State
+state r = r .state
+
+abbrev sent : Result → List Frame
+sent r = r .sent
+
+-- NMT commands, to every node
+abbrev network : Event
+network = Received (record { identifier = 0; remote = false })
+
+abbrev toAll : ℕ → List ℕ
+toAll command = command ∷ 0 ∷ []
+
+-- what is not refused goes by its kind
+module _ (u : State) (fine : NotRefused u) where
+  by-kind : (e : Event) (bytes : List ℕ) (n : ℕ) → event e bytes n u ≡ onEvent e bytes n u
+  by-kind e bytes n = then-its-kind e bytes n u (fine .0) (fine .1)
+
+  starts : event network (toAll 0x01) 2 u .state .network ≡ 5
+  unfolding onFrame onNetwork onNetworkCommand
+  starts = ap (λ (r : Result). r .state .network) (by-kind network (toAll 0x01) 2)
+
+  boots : event network (toAll 0x82) 2 u .sent ≡ bootUpFrame (u .node) ∷ []
+  unfolding onFrame onNetwork onNetworkCommand
+  boots = ap sent (by-kind network (toAll 0x82) 2)
+
+-- node 1, powered on with one blank block
 abbrev noIdentity : Identity
 noIdentity = record { vendor = 0; product = 0; revision = 0; serial = 0 }
 
@@ -46,62 +73,36 @@ pre-operational = refl
 fine : NotRefused device
 fine = start-stays 1 noIdentity (blankBlocks 1) accepted
 
-serves : Serves device
-serves = (fine, ap served pre-operational)
-
-abbrev state : Result → State
-state r = r .state
-
-abbrev sent : Result → List Frame
-sent r = r .sent
-
--- an event on the device goes by its kind
-by-kind : (e : Event) (bytes : List ℕ) (n : ℕ) → event e bytes n device ≡ onEvent e bytes n device
-by-kind e bytes n = then-its-kind e bytes n device (fine .0) (fine .1)
-
--- NMT start moves it, a remote frame does nothing
-abbrev network : Bool → Event
-network remote = Received (record { identifier = 0; remote = remote })
-
-abbrev toStart : List ℕ
-toStart = 0x01 ∷ 0 ∷ []
-
-starts : event (network false) toStart 2 device .state .network ≡ 5
-unfolding onFrame onNetwork onCommand
-starts = ap (λ (r : Result). r .state .network) (by-kind (network false) toStart 2)
-
-moves : ¬ (event (network false) toStart 2 device .state ≡ device)
-moves still =
-    let differ : _≡_ {A = ℕ} 5 127 = sym starts ∙ ap (λ (u : State). u .network) still ∙ pre-operational in
-    omega arith
-
-does-nothing : event (network true) [] 0 device .state ≡ device
-unfolding onFrame
-does-nothing = ap state (by-kind (network true) [] 0)
-
 pub refuses-all : KeptOut RefusesAll
 refuses-all sensor refuses meets =
-    refuses (Tick 0) [] 0 device (ap (λ (r : Result). r .refusal) (meets (Tick 0) [] 0 device ∙ by-kind (Tick 0) [] 0) ∙ tick-accepted device 0 .0)
+    refuses (Tick 0) [] 0 device (ap (λ (r : Result). r .refusal) (meets (Tick 0) [] 0 device ∙ by-kind device fine (Tick 0) [] 0) ∙ tick-accepted device 0 .0)
 
 pub changes-nothing : KeptOut ChangesNothing
-changes-nothing sensor still meets = moves (ap state (sym (meets (network false) toStart 2 device)) ∙ still (network false) toStart 2 device)
+changes-nothing sensor still meets =
+    let same = ap state (sym (meets network (toAll 0x01) 2 device)) ∙ still network (toAll 0x01) 2 device in
+    let differ : _≡_ {A = ℕ} 5 127 = sym (starts device fine) ∙ ap (λ (u : State). u .network) same ∙ pre-operational in
+    omega arith
 
 pub constant-sensor : KeptOut Constant
 constant-sensor sensor (number, frames, same) = changes-nothing sensor (λ e bytes n u. ap (λ (s : Sensor). s e bytes n u .state) same)
 
+-- a frame is not none
+some : (f : Frame) → ¬ ([] ≡ f ∷ [])
+some f e = let none : _≡_ {A = ℕ} 0 1 = ap length e in omega arith
+
 pub works-once : KeptOut WorksOnce
-works-once sensor once meets =
-    let same : sensor (network true) [] 0 device .state ≡ device = ap state (meets (network true) [] 0 device) ∙ does-nothing in
-    let still = once 1 noIdentity (blankBlocks 1) accepted (network true) (network false) [] toStart 0 2 .0 in
-    moves (ap state (sym (meets (network false) toStart 2 device)) ∙ rw same at still)
+works-once sensor (node, identity, j, on, first, bytes, n, dead) meets =
+    let start = powerOn node identity j .state in
+    let u = event first bytes n start .state in
+    let same : sensor first bytes n start .state ≡ u = ap state (meets first bytes n start) in
+    let silent = rw same at (dead network (toAll 0x82) 2 .1) in
+    some (bootUpFrame (u .node))
+    (sym silent ∙ ap sent (meets network (toAll 0x82) 2 u) ∙ boots u (event-stays start (start-stays node identity j on) first bytes n))
 
 -- reads of 1000:0 and of 1018:0 are answered 43h and 4Fh first
 abbrev firstByte : List Frame → ℕ
 firstByte [] = 0
 firstByte (f ∷ fs) = getD (f .bytes) 0 0
-
-abbrev answered : List ℕ → ℕ
-answered bytes = firstByte (event (request One device) bytes 8 device .sent)
 
 abbrev read1000 : List ℕ
 read1000 = 0x40 ∷ 0x00 ∷ 0x10 ∷ 0 ∷ 0 ∷ 0 ∷ 0 ∷ 0 ∷ []
@@ -109,30 +110,48 @@ read1000 = 0x40 ∷ 0x00 ∷ 0x10 ∷ 0 ∷ 0 ∷ 0 ∷ 0 ∷ 0 ∷ []
 abbrev read1018 : List ℕ
 read1018 = 0x40 ∷ 0x18 ∷ 0x10 ∷ 0 ∷ 0 ∷ 0 ∷ 0 ∷ 0 ∷ []
 
-on-channel : (bytes : List ℕ) → answered bytes ≡ firstByte (onService One bytes 8 device .sent)
-on-channel bytes = ap (λ (r : Result). firstByte (r .sent)) (request-received false bytes 8 device (fine .0) (fine .1) One)
+-- "80h ends the transfer, no reply"
+abbrev ending : List ℕ
+ending = 0x80 ∷ 0 ∷ 0 ∷ 0 ∷ 0 ∷ 0 ∷ 0 ∷ 0 ∷ []
 
-different : (answered read1000 ≡ 0x43) × (answered read1018 ≡ 0x4F)
-unfolding powerOn lengthOk blankBlocks start onService commandOf find reply twoAt
-different = (on-channel read1000, on-channel read1018)
+-- requests on any channel, beside any record that serves
+module _ (c : Channel) (u : State) (serves : Serves u) where
+  on-channel : (bytes : List ℕ) → replies event c bytes u ≡ answered c (service.onCommand c bytes (command bytes) (objectAt (indexOf bytes) (subindexOf bytes)) u) u .sent
+  unfolding onService
+  on-channel bytes = ap sent (request-received false bytes 8 u (serves .0 .0) (serves .0 .1) c) ∙ rw (serves .1)
+
+  first-bytes : (firstByte (replies event c read1000 u) ≡ 0x43) × (firstByte (replies event c read1018 u) ≡ 0x4F)
+  unfolding commandOf find reply twoAt
+  first-bytes = (ap firstByte (on-channel read1000), ap firstByte (on-channel read1018))
+
+  no-reply : replies event c ending u ≡ []
+  unfolding commandOf
+  no-reply = on-channel ending
+
+  filled-read : replies event c read2100 u ≡ filledBlocks c u ∷ []
+  unfolding commandOf find reply twoAt
+  filled-read = on-channel read2100
 
 -- what is answered, and with one frame if at all, begins as that frame does
 begins : (l : List Frame) (f : Frame) (n : ℕ) → firstByte l ≡ suc n → (¬ (l ≡ []) → l ≡ f ∷ []) → suc n ≡ firstByte (f ∷ [])
 begins l f n told one = sym told ∙ ap firstByte (one (λ silent. let zero : suc n ≡ 0 = sym told ∙ ap firstByte silent in omega arith))
 
+-- a sensor that meets demand 2 replies as the rules do
+as-told : (sensor : Sensor) → Meets sensor → (c : Channel) (bytes : List ℕ) (u : State) → replies sensor c bytes u ≡ replies event c bytes u
+as-told sensor meets c bytes u = ap sent (meets (request c u) bytes 8 u)
+
 pub answers-alike : KeptOut AnswersAlike
-answers-alike sensor alike meets =
-    let one = alike One device serves in
-    let same : (bytes : List ℕ) → firstByte (sensor (request One device) bytes 8 device .sent) ≡ answered bytes =
-    λ bytes. ap (λ (r : Result). firstByte (r .sent)) (meets (request One device) bytes 8 device) in
+answers-alike sensor (c, u, serves, f, one) meets =
+    let told = first-bytes c u serves in
     let differ : _≡_ {A = ℕ} 0x43 0x4F =
-    begins _ (one .0) 0x42 (same read1000 ∙ different .0) (one .1 read1000) ∙ sym (begins _ (one .0) 0x4E (same read1018 ∙ different .1) (one .1 read1018)) in
+    begins _ f 0x42 (ap firstByte (as-told sensor meets c read1000 u) ∙ told .0) (one read1000 refl)
+    ∙ sym (begins _ f 0x4E (ap firstByte (as-told sensor meets c read1018 u) ∙ told .1) (one read1018 refl)) in
     omega arith
 
--- whatever the record, a read of 2100 gives its filled blocks
-filled-read : (c : Channel) (u : State) → Serves u → event (request c u) read2100 8 u .sent ≡ filledBlocks c u ∷ []
-unfolding onService commandOf find reply twoAt
-filled-read c u ((range, fits), now) = ap sent (request-received false read2100 8 u range fits c) ∙ rw now refl
+pub answers-each : KeptOut AnswersEach
+answers-each sensor (c, u, serves, each) meets =
+    let (f, one) = each ending refl in
+    some f (sym (as-told sensor meets c ending u ∙ no-reply c u serves) ∙ one)
 
 pub invents-2100 : KeptOut Invents2100
-invents-2100 sensor (c, u, serves, invented) meets = invented (ap sent (meets (request c u) read2100 8 u) ∙ filled-read c u serves)
+invents-2100 sensor (c, u, serves, invented) meets = invented (as-told sensor meets c read2100 u ∙ filled-read c u serves)

@@ -3,6 +3,7 @@ use mathlib.Core.Path.{_≡_}
 use mathlib.Core.Bool.{true}
 use mathlib.Core.List.{List, [], _∷_}
 use Prim.Native.Nat.{ℕ}
+use lib.ListN.{length}
 use Rattle.interleaving.specs.Demand3.{constant}
 use Rattle.interleaving.specs.Runs.{Sensor}
 use Rattle.rules.specs.declared.events.Event.{Event}
@@ -32,24 +33,34 @@ Serves u = NotRefused u × (served (u .network) ≡ true)
 abbrev pub RefusesAll : Sensor → Type 0
 RefusesAll sensor = (e : Event) (bytes : List ℕ) (n : ℕ) (u : State) → ¬ (sensor e bytes n u .refusal ≡ 0)
 
--- "the one that answers every request with one frame": wherever it answers, even if it has one for each channel of each record
+-- what it sends to a request of 8 bytes on a channel
+abbrev pub replies : Sensor → Channel → List ℕ → State → List Frame
+replies sensor c bytes u = sensor (request c u) bytes 8 u .sent
+
+-- "the one that answers every request with one frame", the same one: wherever it answers, on some channel of some record that serves
 abbrev pub AnswersAlike : Sensor → Type 0
 AnswersAlike sensor =
-    (c : Channel) (u : State) → Serves u →
-    (f : Frame) × ((bytes : List ℕ) → ¬ (sensor (request c u) bytes 8 u .sent ≡ []) → sensor (request c u) bytes 8 u .sent ≡ f ∷ [])
+    (c : Channel) × (u : State) × Serves u × (f : Frame)
+    × ((bytes : List ℕ) → length bytes ≡ 8 → ¬ (replies sensor c bytes u ≡ []) → replies sensor c bytes u ≡ f ∷ [])
+
+-- or with exactly one frame, whichever it is: 80h gets "no reply"
+abbrev pub AnswersEach : Sensor → Type 0
+AnswersEach sensor =
+    (c : Channel) × (u : State) × Serves u × ((bytes : List ℕ) → length bytes ≡ 8 → (f : Frame) × (replies sensor c bytes u ≡ f ∷ []))
 
 -- "the one that takes events and changes nothing"
 abbrev pub ChangesNothing : Sensor → Type 0
 ChangesNothing sensor = (e : Event) (bytes : List ℕ) (n : ℕ) (u : State) → sensor e bytes n u .state ≡ u
 
--- "the one that works after power-on for one event only": the next one changes nothing and sends nothing
+-- whatever comes next changes nothing and sends nothing
+abbrev pub Dead : Sensor → State → Type 0
+Dead sensor u = (next : Event) (bytes : List ℕ) (n : ℕ) → (sensor next bytes n u .state ≡ u) × (sensor next bytes n u .sent ≡ [])
+
+-- "the one that works after power-on for one event only": dead after some accepted power-on and some first event, be it a frame, a tick or a reading
 abbrev pub WorksOnce : Sensor → Type 0
 WorksOnce sensor =
-    (node : ℕ) (identity : Identity) (j : List ℕ) →
-    powerOn node identity j .refusal ≡ 0 →
-    (e next : Event) (bytes more : List ℕ) (n m : ℕ) →
-    let u = sensor e bytes n (powerOn node identity j .state) .state in
-    (sensor next more m u .state ≡ u) × (sensor next more m u .sent ≡ [])
+    (node : ℕ) × (identity : Identity) × (j : List ℕ) × (powerOn node identity j .refusal ≡ 0)
+    × (first : Event) × (bytes : List ℕ) × (n : ℕ) × Dead sensor (sensor first bytes n (powerOn node identity j .state) .state)
 
 -- a read of 2100, and its answer: the record's filled blocks
 abbrev pub read2100 : List ℕ
@@ -61,7 +72,7 @@ filledBlocks c u = replyFrame c (u .node) (0x4B ∷ 0x00 ∷ 0x21 ∷ 0 ∷ four
 -- "the one whose 2100 is invented": beside some record that serves it answers anything else
 abbrev pub Invents2100 : Sensor → Type 0
 Invents2100 sensor =
-    (c : Channel) × (u : State) × Serves u × ¬ (sensor (request c u) read2100 8 u .sent ≡ filledBlocks c u ∷ [])
+    (c : Channel) × (u : State) × Serves u × ¬ (replies sensor c read2100 u ≡ filledBlocks c u ∷ [])
 
 -- "Demand 3 alone admits the constant sensor": demand 2 does not
 abbrev pub Constant : Sensor → Type 0

@@ -19,8 +19,8 @@ OnePowerOn = (node : ℕ) (identity : Identity) (j : List ℕ) (r s : Stepped) �
 -- `Device::event`: the record and the answer, and every byte of the journal
 abbrev pub OneEvent : Type 0
 OneEvent =
-    (d : Device) (j : List ℕ) (e : Event) (bytes : List ℕ) (length : ℕ) (r s : Stepped) (k l : List ℕ) →
-    Answered d j e bytes length r k → Answered d j e bytes length s l → (r ≡ s) × (k ≡ l)
+    (d : Device) (j : List ℕ) (e : Event) (bytes : List ℕ) (size : ℕ) (r s : Stepped) (k l : List ℕ) →
+    Answered d j e bytes size r k → Answered d j e bytes size s l → (r ≡ s) × (k ≡ l)
 
 -- `basintilt_event`: the answer, the lent record and every byte of the journal
 abbrev pub OneLentEvent : Type 0

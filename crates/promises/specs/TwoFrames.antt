@@ -4,6 +4,9 @@ use mathlib.Core.List.{List}
 use Prim.Native.Nat.{ℕ}
 use lib.ListN.{take}
 use Rattle.answers.specs.declared.Answer.{Answer}
+use Rattle.basintilt.specs.declared.Happening.{Happening}
+use Rattle.basintilt.specs.Happenings.{eventOf, lengthIn}
+use Rattle.basintilt.specs.Lent.{Lent}
 use Rattle.device.specs.declared.Device.{Device}
 use Rattle.device.specs.declared.Stepped.{Stepped}
 use Rattle.device.specs.Promise.{Answered, PoweredOn, eventOn}
@@ -18,8 +21,13 @@ framesIn a = take (a .count) (a .frames)
 
 abbrev pub EventFrames : Type 0
 EventFrames =
-    (d : Device) (j : List ℕ) (e : Event) (bytes : List ℕ) (length : ℕ) (r : Stepped) (k : List ℕ) →
-    Answered d j e bytes length r k → framesIn (r .answer) ≡ eventOn d j e bytes length .sent
+    (d : Device) (j : List ℕ) (e : Event) (bytes : List ℕ) (size : ℕ) (r : Stepped) (k : List ℕ) →
+    Answered d j e bytes size r k → framesIn (r .answer) ≡ eventOn d j e bytes size .sent
+
+abbrev pub LentFrames : Type 0
+LentFrames =
+    (d : Device) (j : List ℕ) (h : Happening) (r : Answer) (a : Device) (k : List ℕ) →
+    Lent d j h r a k → framesIn r ≡ eventOn d j (eventOf h) (h .bytes) (lengthIn h) .sent
 
 abbrev pub PowerOnFrames : Type 0
 PowerOnFrames =

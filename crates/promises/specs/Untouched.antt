@@ -17,29 +17,29 @@ use Rattle.rules.specs.PowerOn.{zeroState}
 use Rattle.rules.specs.Results.{mostFrames}
 
 -- a refusal and no frame: the count is 0 and every place is all zero
-abbrev pub silent : ℕ → Answer
-silent refusal = record { refusal = refusal; count = 0; frames = replicate mostFrames noFrame }
+abbrev pub sendsNothing : ℕ → Answer
+sendsNothing refusal = record { refusal = refusal; count = 0; frames = replicate mostFrames noFrame }
 
 -- "leave record and journal as given"
 abbrev pub LentUntouched : Type 0
 LentUntouched =
     (d : Device) (j : List ℕ) (h : Happening) (r : Answer) (a : Device) (k : List ℕ) →
-    Lent d j h r a k → ¬ (r .refusal ≡ 0) → (a ≡ d) × (k ≡ j) × (r ≡ silent (r .refusal))
+    Lent d j h r a k → ¬ (r .refusal ≡ 0) → (a ≡ d) × (k ≡ j) × (r ≡ sendsNothing (r .refusal))
 
-abbrev pub EventUntouched : Type 0
-EventUntouched =
-    (d : Device) (j : List ℕ) (e : Event) (bytes : List ℕ) (length : ℕ) (r : Stepped) (k : List ℕ) →
-    Answered d j e bytes length r k → ¬ (r .answer .refusal ≡ 0) → (r .device ≡ d) × (k ≡ j) × (r .answer ≡ silent (r .answer .refusal))
+abbrev pub EventHandsBack : Type 0
+EventHandsBack =
+    (d : Device) (j : List ℕ) (e : Event) (bytes : List ℕ) (size : ℕ) (r : Stepped) (k : List ℕ) →
+    Answered d j e bytes size r k → ¬ (r .answer .refusal ≡ 0) → (r .device ≡ d) × (k ≡ j) × (r .answer ≡ sendsNothing (r .answer .refusal))
 
 -- "a refused power-on returns the all-zero record"
 abbrev pub zeroRecord : Device
 zeroRecord = held (zeroState [])
 
-abbrev pub PowerOnUntouched : Type 0
-PowerOnUntouched =
+abbrev pub PowerOnHandsBack : Type 0
+PowerOnHandsBack =
     (node : ℕ) (identity : Identity) (j : List ℕ) (r : Stepped) →
-    PoweredOn node identity j r → ¬ (r .answer .refusal ≡ 0) → (r .device ≡ zeroRecord) × (r .answer ≡ silent (r .answer .refusal))
+    PoweredOn node identity j r → ¬ (r .answer .refusal ≡ 0) → (r .device ≡ zeroRecord) × (r .answer ≡ sendsNothing (r .answer .refusal))
 
 -- "which every event refuses with 3"
-abbrev pub ZeroRefused : Type 0
-ZeroRefused = (j : List ℕ) (h : Happening) (r : Answer) (a : Device) (k : List ℕ) → Lent zeroRecord j h r a k → r .refusal ≡ 3
+abbrev pub ZeroRecordRefused : Type 0
+ZeroRecordRefused = (j : List ℕ) (h : Happening) (r : Answer) (a : Device) (k : List ℕ) → Lent zeroRecord j h r a k → r .refusal ≡ 3

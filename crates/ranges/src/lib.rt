@@ -147,7 +147,7 @@ pub fn axis_ok(x: Reading) -> bool
     ensures { λ r. ⌜ r ≡ axisOk x ⌝ }
 {
     if x.state == states::NONE {
-        return (0 <= x.m) & (x.m <= 0);
+        return x.m == 0;
     }
     (x.state <= states::FAULTY) & inside(x.m)
 }

@@ -14,7 +14,7 @@ use Rattle.rules.specs.Events.{journalFits, NotRefused, event}
 use Rattle.rules.specs.PowerOn.{powerOn}
 use Rattle.rules.specs.Ranges.{inRange}
 use Rattle.rules.specs.State.{State}
-use Rattle.refusals.specs.WorksOn.{Given, after, lent, StaysInRange, WorksOn}
+use Rattle.refusals.specs.WorksOn.{Given, afterEvents, lent, StaysInRange, WorksOn}
 use Rattle.refusals.proofs.EventRows.{event-rows, right-record, right-journal}
 
 -- the same number of blocks is the same length
@@ -24,7 +24,7 @@ length-kept u v was is same =
     let now = eqb-true (length (v .journal)) (512 * v .saves .blocks) (is .1) in
     now ∙ ap (λ (k : ℕ). 512 * k) same ∙ sym before
 
-after-fine : (gs : List Given) (u : State) → NotRefused u → NotRefused (after gs u) × (after gs u .saves .blocks ≡ u .saves .blocks)
+after-fine : (gs : List Given) (u : State) → NotRefused u → NotRefused (afterEvents gs u) × (afterEvents gs u .saves .blocks ≡ u .saves .blocks)
 after-fine [] u fine = (fine, refl)
 after-fine (g ∷ gs) u fine =
     let next = event (g .event) (g .bytes) (g .length) u .state in
@@ -64,7 +64,7 @@ works-on node identity j accepted gs =
     let start = powerOn node identity j .state in
     let started = start-stays node identity j accepted in
     let rest = after-fine gs start started in
-    let u = after gs start in
+    let u = afterEvents gs start in
     let same : length (u .journal) ≡ length j = length-kept start u started (rest .0) (rest .1) ∙ ap length (power-on-journal node identity j) in (
       rest .0 .0,
       same,

@@ -20,9 +20,9 @@ pub record Given : Type 0 where
   pub length : ℕ
 
 -- the device and the journal after a list of events, refused ones too
-abbrev pub after : List Given → State → State
-after [] u = u
-after (g ∷ gs) u = after gs (event (g .event) (g .bytes) (g .length) u .state)
+abbrev pub afterEvents : List Given → State → State
+afterEvents [] u = u
+afterEvents (g ∷ gs) u = afterEvents gs (event (g .event) (g .bytes) (g .length) u .state)
 
 -- the record beside another journal that is lent
 abbrev pub lent : List ℕ → State → State
@@ -55,7 +55,7 @@ WorksOn =
     (node : ℕ) (identity : Identity) (j : List ℕ) →
     powerOn node identity j .refusal ≡ 0 →
     (gs : List Given) →
-    let u = after gs (powerOn node identity j .state) in
+    let u = afterEvents gs (powerOn node identity j .state) in
     (inRange u ≡ true)
     × (length (u .journal) ≡ length j)
     × ((e : Event) (bytes : List ℕ) (n : ℕ) → event e bytes n u .refusal ≡ 0 ↔ ¬ WrongFrame e n)

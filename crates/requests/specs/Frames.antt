@@ -13,22 +13,22 @@ use Rattle.requests.specs.declared.Rule.the-variants.{Wrong, Nothing, Ne
 
 -- "NMT: identifier 0, length 2, node 0 or own"
 abbrev pub commandTo : List ℕ → ℕ → ℕ → Rule
-commandTo bytes length node = cond (eqb length 2 && (eqb (getD bytes 1 0) 0 || eqb (getD bytes 1 0) node)) (Network (getD bytes 0 0)) Nothing
+commandTo bytes size node = cond (eqb size 2 && (eqb (getD bytes 1 0) 0 || eqb (getD bytes 1 0) node)) (Network (getD bytes 0 0)) Nothing
 
 -- "requests of 8 bytes only"
 abbrev pub requestTo : ℕ → ℕ → ℕ → Rule
-requestTo identifier length node =
-    cond (eqb length 8)
+requestTo identifier size node =
+    cond (eqb size 8)
     (cond (eqb identifier (requestsAt One + node)) (Request One)
     (cond (eqb identifier (requestsAt Two + node)) (Request Two)
     Nothing))
     Nothing
 
 abbrev pub ruleOf : FrameHead → List ℕ → ℕ → ℕ → Rule
-ruleOf f bytes length node =
-    cond (frameOk f length)
+ruleOf f bytes size node =
+    cond (frameOk f size)
     (cond (f .remote) Nothing
-    (cond (eqb (f .identifier) 0) (commandTo bytes length node)
-    (cond (eqb (f .identifier) 0x80 && eqb length 0) Sync
-    (requestTo (f .identifier) length node))))
+    (cond (eqb (f .identifier) 0) (commandTo bytes size node)
+    (cond (eqb (f .identifier) 0x80 && eqb size 0) Sync
+    (requestTo (f .identifier) size node))))
     Wrong

@@ -5,7 +5,7 @@ use rules::requests::Command;
 ghost use mathlib.Core.Path.{_≡_};
 ghost use Prim.Native.Nat.{_+_, _*_, _%_, _^_};
 ghost use Rattle.rules.specs.Numbers.{fourAt};
-ghost use Rattle.rules.specs.Requests.{commandOf, index as indexOf, subindex as subindexOf};
+ghost use Rattle.rules.specs.Requests.{commandOf, indexOf as indexOf, subindexOf as subindexOf};
 ghost use Rattle.requests.specs.Frames.{commandTo, requestTo, ruleOf};
 
 const MOST_IDENTIFIER: u32 = 0x7FF;

@@ -15,9 +15,9 @@ use Rattle.rules.specs.declared.objects.Channel.{Channel}
 use Rattle.rules.specs.declared.objects.Channel.the-variants.{One, Two}
 use Rattle.rules.specs.declared.parts.Identity.{Identity}
 use Rattle.rules.specs.Events.{answered, onService, onFrame, frameOk, onEvent, journalFits, NotRefused, event}
-use Rattle.rules.specs.Frames.{requestsAt, bootUp}
+use Rattle.rules.specs.Frames.{requestsAt, bootUpFrame}
 use Rattle.rules.specs.Journal.{lengthOk}
-use Rattle.rules.specs.Network.{start, communicating, onCommand, onNetwork}
+use Rattle.rules.specs.Network.{start, communicating, onNetworkCommand, onNetwork}
 use Rattle.rules.specs.PowerOn.{savesIn, zeroState, powerOn}
 use Rattle.rules.specs.Ranges.{inRange, nodeOk}
 use Rattle.rules.specs.Readings.{onReading}
@@ -34,15 +34,15 @@ module _ (u : State) (P : Result → Type 0) where
     pub stopped : P (ignored (withNetwork stopped (u .pdo) u))
     pub preOperational : P (ignored (withNetwork preOperational (u .pdo) u))
     pub started : P (start (u .node) (u .identity) (u .saves) (u .journal))
-    pub communicated : P (accepted (communicating u) (bootUp (u .node) ∷ []))
+    pub communicated : P (accepted (communicating u) (bootUpFrame (u .node) ∷ []))
     pub synchronized : P (onSync u)
     pub ticked : (ms : ℕ) → P (onTick ms u)
     pub measured : (a : Axis) (m : ℤ) → P (onReading a m u)
     pub requested : (c : Channel) (bytes : List ℕ) → P (answered c (outcome c bytes u) u)
 
   module _ (each : Each) where
-    command : (number : ℕ) → P (onCommand number u)
-    unfolding onCommand
+    command : (number : ℕ) → P (onNetworkCommand number u)
+    unfolding onNetworkCommand
     command number =
         cond-both P (eqb number 0x01) (each .operational)
         (cond-both P (eqb number 0x02) (each .stopped)

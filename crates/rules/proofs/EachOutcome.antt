@@ -21,7 +21,7 @@ use Rattle.rules.specs.declared.requests.Verdict.the-variants.{Pass, Abo
 use Rattle.rules.specs.Objects.{objectAt}
 use Rattle.rules.specs.Reads.{readOf}
 use Rattle.rules.specs.Replies.{written, readNumber, readText, firstSegment, lastSegment, wrongToggle, noTransfer}
-use Rattle.rules.specs.Requests.{command, index, subindex, valueFor}
+use Rattle.rules.specs.Requests.{command, indexOf, subindexOf, valueFor}
 use Rattle.rules.specs.Service.{replied, silent, refuse, onWrite, onRead, onSegment, onCommand, outcome, served}
 use Rattle.rules.specs.State.{State, absent, atStart, afterSeven, transferring, transferOf}
 use Rattle.rules.specs.Writes.{change, writeCheck}
@@ -30,7 +30,7 @@ module _ (c : Channel) (request : List ℕ) (u : State) (P : Outcome → Type 0)
   -- an abort, an accepted write, a read, the string's, a segment, and no reply
   pub record Each : Type 0 where
     pub aborted : (code : ℕ) → P (refuse request code)
-    pub wrote : (given : ℕ) (o : Object) → command request ≡ Write given → objectAt (index request) (subindex request) ≡ At o
+    pub wrote : (given : ℕ) (o : Object) → command request ≡ Write given → objectAt (indexOf request) (subindexOf request) ≡ At o
         → writeCheck given o (valueFor o request) u ≡ Pass → P (replied (written request) absent (change c o (valueFor o request) u))
     pub number : (size n : ℕ) → P (replied (readNumber size request n) absent Keep)
     pub text : P (replied (readText request) atStart Keep)
@@ -57,7 +57,7 @@ module _ (c : Channel) (request : List ℕ) (u : State) (P : Outcome → Type 0)
         cond-both P (eqb (t .stage) absent) (each .missing)
         (cond-both P (eqb (t .stage) atStart) (cond-both P (eqb toggle 0) (each .first) (each .toggle)) (cond-both P (eqb toggle 1) (each .last) (each .toggle)))
 
-    commands : (k : Command) (f : Found) → command request ≡ k → objectAt (index request) (subindex request) ≡ f → P (onCommand c request k f u)
+    commands : (k : Command) (f : Found) → command request ≡ k → objectAt (indexOf request) (subindexOf request) ≡ f → P (onCommand c request k f u)
     commands (Write given) (At o) p q = writes (writeCheck given o (valueFor o request) u) (change c o (valueFor o request) u) (each .wrote given o p q)
     commands (Write given) NoObject p q = each .aborted 0x06020000
     commands (Write given) NoSubindex p q = each .aborted 0x06090011
@@ -69,4 +69,4 @@ module _ (c : Channel) (request : List ℕ) (u : State) (P : Outcome → Type 0)
     commands Unknown f p q = each .aborted 0x05040001
 
     pub each-outcome : P (outcome c request u)
-    each-outcome = cond-both P (served (u .network)) (commands (command request) (objectAt (index request) (subindex request)) refl refl) (each .unserved)
+    each-outcome = cond-both P (served (u .network)) (commands (command request) (objectAt (indexOf request) (subindexOf request)) refl refl) (each .unserved)

@@ -25,15 +25,16 @@ use Rattle.rules.specs.declared.requests.Verdict.the-variants.{Pass, Abo
 use Rattle.rules.specs.declared.requests.Zeroed.{Zeroed}
 use Rattle.rules.specs.declared.requests.Zeroed.the-variants.{To, Refused}
 use Rattle.rules.specs.Angle.{offset, zeroed}
-use Rattle.rules.specs.Block.{save, load}
+use Rattle.rules.specs.Block.{saveKind, loadKind}
 use Rattle.rules.specs.Numbers.{between, fourAt, fits, signed}
 use Rattle.rules.specs.Objects.{rowOf, settingRow}
 use Rattle.rules.specs.Requests.{valueFor}
-use Rattle.rules.specs.Service.{outcome, valued}
+use Rattle.rules.specs.Service.{outcome}
 use Rattle.rules.specs.Settings.{within, pdoWithin, axisSettings}
 use Rattle.rules.specs.State.{State, good, reading, transferOf}
-use Rattle.rules.specs.Writes.{_then_, unless, lengthCheck, roomCheck, zeroedBy, zeroChange, settingWrite, write, writeCheck, change}
+use Rattle.rules.specs.Writes.{_then_, unless, lengthCheck, roomCheck, zeroedBy, zeroChange, settingWrite, writeOf, writeCheck, change}
 use Rattle.rules.specs.Ranges.{transferOk}
+use Rattle.rules.proofs.BySetting.{valued}
 use Rattle.rules.proofs.EachOutcome.{each-outcome}
 use Rattle.rules.proofs.Ranges.{signed-fits}
 
@@ -43,7 +44,7 @@ Allowed u Keep = Unit {0}
 Allowed u (Put s v) = (v < 256 ^ settingRow s .size) × (within s (valued s v) ≡ true)
 Allowed u (Zero a preset offset) = (fits 16 preset ≡ true) × (fits 16 offset ≡ true)
 Allowed u Empty = Unit {0}
-Allowed u (Fill c kind) = (u .saves .filled < u .saves .blocks) × (u .saves .spoiled ≡ 0) × (between save load kind ≡ true)
+Allowed u (Fill c kind) = (u .saves .filled < u .saves .blocks) × (u .saves .spoiled ≡ 0) × (between saveKind loadKind kind ≡ true)
 
 -- the first and the last check pass where the whole chain does
 pub passes-first : (v w : Verdict) → v then w ≡ Pass → v ≡ Pass
@@ -86,7 +87,7 @@ zero-fits x r operating differential preset =
     cond-both ZeroFits (eqb (x .state) good) (cond-each ZeroFits (fits 16 o) (λ e. e) (λ e. tt)) tt
 
 module _ (u : State) where
-  fills : (c : Channel) (kind : ℕ) → between save load kind ≡ true
+  fills : (c : Channel) (kind : ℕ) → between saveKind loadKind kind ≡ true
       → roomCheck (u .saves .spoiled) (u .saves .filled) (u .saves .blocks) ≡ Pass → Allowed u (Fill c kind)
   unfolding roomCheck
   fills c kind does e =
@@ -115,13 +116,13 @@ module _ (u : State) where
   sets c (Differential a) v h e = (h, accepted-in u (Differential a) v h e)
 
   -- an object's change, where the value's check and the device state's pass
-  changes : (c : Channel) (o : Object) (v : ℕ) → v < 256 ^ rowOf o .size → write o v u .value ≡ Pass → write o v u .state ≡ Pass → Allowed u (change c o v u)
+  changes : (c : Channel) (o : Object) (v : ℕ) → v < 256 ^ rowOf o .size → writeOf o v u .value ≡ Pass → writeOf o v u .state ≡ Pass → Allowed u (change c o v u)
   changes c (Const f) v h p e = tt
   changes c ErrorCount v h p e = tt
   changes c (ErrorEntry n) v h p e = tt
   changes c Name v h p e = tt
-  changes c Save v h p e = fills c save refl e
-  changes c Load v h p e = fills c load refl e
+  changes c Save v h p e = fills c saveKind refl e
+  changes c Load v h p e = fills c loadKind refl e
   changes c Filled v h p e = tt
   changes c (Angle a) v h p e = tt
   changes c (Of s) v h p e = sets c s v h p
@@ -130,8 +131,8 @@ module _ (u : State) where
   wrote : (c : Channel) (request : List ℕ) (given : ℕ) (o : Object) → writeCheck given o (valueFor o request) u ≡ Pass → Allowed u (change c o (valueFor o request) u)
   wrote c request given o e =
       let v = valueFor o request in
-      let state = write o v u .state in
-      let value = write o v u .value in
+      let state = writeOf o v u .state in
+      let value = writeOf o v u .value in
       let long = lengthCheck given (rowOf o .size) in
       let checked = passes-last long (value then state) (passes-last (unless (rowOf o .writable) 0x06010002) (long then value then state) e) in
       changes c o v (value-fits o request) (passes-first value state checked) (passes-last value state checked)

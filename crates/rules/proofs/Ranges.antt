@@ -1,13 +1,13 @@
 -- Laws of the ranges: what the width of a field says, and what a record in its ranges says of each part.
 use mathlib.Core.Path.{_≡_, refl, sym, _∙_}
-use mathlib.Core.Bool.{Bool, true, false, cond, not, _&&_, _||_}
+use mathlib.Core.Bool.{Bool, true, false, cond, _&&_}
 use mathlib.Core.List.{[], _∷_}
 use Prim.Native.Nat.{ℕ, zero, suc, _+_, _-_, _≤_, _<_}
 use native.Mathlib.Numerals.{add-one}
 use native.Mathlib.Omega.{arith}
-use borrow.Author.Tests.{le-leb, lt-ltb, ltb-true, ltb-false}
+use borrow.Author.Tests.{eqb-true, le-leb, lt-ltb, ltb-true, ltb-false}
 use lib.Dec.{eqb, ltb, leb, leb·suc-suc}
-use lib.IntN.{ℤ, pos, negsuc}
+use lib.IntN.{ℤ, pos, negsuc, natAbs}
 use lib.ListN.{getD}
 use lib.Seq.{getD-take}
 use lib.Signed.{mag, leZ}
@@ -50,12 +50,19 @@ resolution-above (suc n) e = omega arith
 pub inside-small : (m : ℤ) → inside m ≡ true → mag m ≤ 180000
 inside-small m e = between-small m 179999 180000 (omega arith) e
 
+zero-inside : (m : ℤ) → eqb (natAbs m) 0 ≡ true → inside m ≡ true
+zero-inside (pos n) e = le-leb n 180000 (omega (arith, eqb-true n 0 e))
+zero-inside (negsuc n) e = absurd (omega (arith, eqb-true (suc n) 0 e))
+
+none-or-inside : (isNone : Bool) (m : ℤ) → cond isNone (eqb (natAbs m) 0) (inside m) ≡ true → inside m ≡ true
+none-or-inside true m e = zero-inside m e
+none-or-inside false m e = e
+
 pub axis-inside : (x : Reading) → axisOk x ≡ true → inside (x .m) ≡ true
 unfolding axisOk
 axis-inside x e =
-    let state = leb (x .state) faulty in
-    let rest = not (eqb (x .state) none) || betweenℤ (pos 0) (pos 0) (x .m) in
-    right state (inside (x .m)) (left (state && inside (x .m)) rest e)
+    let isNone = eqb (x .state) none in
+    none-or-inside isNone (x .m) (right (leb (x .state) faulty) (cond isNone (eqb (natAbs (x .m)) 0) (inside (x .m))) e)
 
 -- factory settings are within the object table
 pub factory-in : inTable factory ≡ true

@@ -10,7 +10,7 @@ use Rattle.rules.specs.declared.events.Event.the-variants.{Received}
 use Rattle.rules.specs.declared.parts.Identity.{Identity}
 use Rattle.rules.specs.Events.{onFrame, journalFits, event}
 use Rattle.rules.specs.Journal.{lengthOk}
-use Rattle.rules.specs.Network.{start, onCommand, onNetwork}
+use Rattle.rules.specs.Network.{start, onNetworkCommand, onNetwork}
 use Rattle.rules.specs.PowerOn.{savesIn, zeroState, powerOn}
 use Rattle.rules.specs.Ranges.{inRange, nodeOk}
 use Rattle.rules.specs.State.{State}
@@ -28,7 +28,7 @@ power-on-takes node identity j n l = rw (n, l)
 module _ (u : State) (bytes : List ℕ) (range : inRange u ≡ true) (fits : journalFits u ≡ true)
     (own : eqb (getD bytes 1 0) 0 || eqb (getD bytes 1 0) (u .node) ≡ true) where
   pub reset-takes : getD bytes 0 0 ≡ 0x81 → event (Received (record { identifier = 0; remote = false })) bytes 2 u .state .running ≡ u .saves .stored
-  unfolding event onFrame onNetwork onCommand start
+  unfolding event onFrame onNetwork onNetworkCommand start
   reset-takes e = rw (range, fits, own, e)
 
   -- "82h takes 1017 and 1800 from the stored settings", and no other
@@ -41,5 +41,5 @@ module _ (u : State) (bytes : List ℕ) (range : inRange u ≡ true) (fits : jou
         x = u .running .x;
         y = u .running .y;
       }
-  unfolding event onFrame onNetwork onCommand
+  unfolding event onFrame onNetwork onNetworkCommand
   communication-reset-takes e = rw (range, fits, own, e)

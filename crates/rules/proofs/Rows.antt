@@ -13,7 +13,7 @@ use Rattle.rules.specs.declared.objects.PdoNumber.the-variants.{First}
 use Rattle.rules.specs.declared.objects.PdoSetting.the-variants.{On, Transmission, Timer}
 use Rattle.rules.specs.declared.objects.Setting.{Setting}
 use Rattle.rules.specs.declared.objects.Setting.the-variants.{Heartbeat, Pdo, Resolution, Operating, Preset, Offset, Differential}
-use Rattle.rules.specs.Objects.{fixedRow, settingRow, sameObject, readOnly, find, objectAt}
+use Rattle.rules.specs.Objects.{fixedRow, settingRow, sameSetting, readOnly, find, objectAt}
 
 -- no request changes these
 pub fixed-read-only : (f : Fixed) → fixedRow f .writable ≡ readOnly
@@ -53,7 +53,7 @@ setting-at (Offset Y) = refl
 setting-at (Differential X) = refl
 setting-at (Differential Y) = refl
 
-pub one-setting : (s t : Setting) → sameObject (settingRow s) (settingRow t) ≡ true → s ≡ t
+pub one-setting : (s t : Setting) → sameSetting s t ≡ true → s ≡ t
 one-setting s t e =
     let index = eqb (settingRow s .index) (settingRow t .index) in
     let subindex = eqb (settingRow s .subindex) (settingRow t .subindex) in

@@ -1,5 +1,5 @@
 -- A request leaves the record in range and the journal at its length.
-use mathlib.Core.Path.{_≡_, refl, sym, subst}
+use mathlib.Core.Path.{_≡_, refl, ap, sym, subst, _∙_}
 use mathlib.Core.Bool.{true}
 use Prim.Native.Nat.{ℕ, _+_, _*_, _≤_}
 use native.Mathlib.Omega.{arith}
@@ -21,18 +21,18 @@ use Rattle.rules.specs.declared.parts.Transfer.{Transfer}
 use Rattle.rules.specs.declared.requests.Change.{Change}
 use Rattle.rules.specs.declared.requests.Change.the-variants.{Keep, Put, Zero, Empty, Fill}
 use Rattle.rules.specs.declared.requests.Outcome.{Outcome}
-use Rattle.rules.specs.declared.settings.PdoSettings.{PdoSettings}
 use Rattle.rules.specs.declared.settings.Settings.{Settings}
-use Rattle.rules.specs.Block.{block, channelNumber, load, mostBlocks}
+use Rattle.rules.specs.Block.{block, channelNumber, loadKind, mostBlocks}
 use Rattle.rules.specs.Events.{journalFits}
 use Rattle.rules.specs.Numbers.{between, fits}
-use Rattle.rules.specs.Objects.{sameObject, settingRow}
+use Rattle.rules.specs.Objects.{sameSetting}
 use Rattle.rules.specs.Ranges.{inRange, savesOk, errorsOk, elapsedOk, countsOk, transferOk}
-use Rattle.rules.specs.Service.{Kept, after, outcome, onSetting, onErrors, keptIn, onKept, stores, storing, onHeartbeat, onCounts, onTransfer, valued, zeroedAt, sameAxis}
-use Rattle.rules.specs.Settings.{Held, every, inTable, setting, pdoSettingsOf, within}
+use Rattle.rules.specs.Service.{Kept, stateAfter, outcome, putPdo, runningAfter, onErrors, keptIn, onKept, stores, storing, onHeartbeat, onCounts, onTransfer}
+use Rattle.rules.specs.Settings.{Held, every, inTable, setting, within}
 use Rattle.rules.specs.State.{State, absent, transferring, place, transferOf}
 use Rattle.rules.proofs.Block.{block-length}
 use Rattle.rules.proofs.InRange.{InRange, parts, together}
+use Rattle.rules.proofs.BySetting.{valued, sameAxis, zeroedAt, onSetting, by-setting}
 use Rattle.rules.proofs.Kept.{put-length}
 use Rattle.rules.proofs.Outcomes.{Allowed, allowed, transfer-in}
 use Rattle.rules.proofs.Ranges.{factory-in, no-errors-in, no-elapsed-in, no-counts-in}
@@ -46,7 +46,7 @@ module _ (u : State) (r : InRange u) where
   -- each setting after a change
   put-in : (t s : Setting) (v : ℕ) → within t (valued t v) ≡ true → within s (onSetting (Put t v) s (was s)) ≡ true
   put-in t s v h =
-      cond-each (λ (x : Held s). within s x ≡ true) (sameObject (settingRow s) (settingRow t))
+      cond-each (λ (x : Held s). within s x ≡ true) (sameSetting s t)
       (λ e. subst (λ (z : Setting). within z (valued z v) ≡ true) (sym (one-setting s t e)) h)
       (λ e. setting-in (u .running) (r .running) s)
 
@@ -74,21 +74,19 @@ module _ (u : State) (r : InRange u) where
   errors-in (Fill c kind) = r .errors
 
   -- the counts: a write that moves a period or a type zeroes what is counted against it
-  abbrev pdoAfter : Change → PdoSettings
-  pdoAfter e = pdoSettingsOf (λ s. onSetting e s (was s)) First
-
   abbrev Counts : Change → Type 0
   Counts e =
-      (elapsedOk (onSetting e Heartbeat (was Heartbeat)) (onHeartbeat e (u .heartbeat)) ≡ true) × (countsOk (pdoAfter e) (onCounts First e (u .pdo)) ≡ true)
+      let t = runningAfter e (u .running) in
+      (elapsedOk (t .heartbeat) (onHeartbeat e (u .heartbeat)) ≡ true) × (countsOk (t .pdo) (onCounts First e (u .pdo)) ≡ true)
 
   same : (elapsedOk (u .running .heartbeat) (u .heartbeat) ≡ true) × (countsOk (u .running .pdo) (u .pdo) ≡ true)
   same = (r .heartbeat, r .pdo)
 
   put-counts : (t : Setting) (v : ℕ) → Counts (Put t v)
   put-counts Heartbeat v = (no-elapsed-in v, r .pdo)
-  put-counts (Pdo First On) v = (r .heartbeat, no-counts-in (pdoAfter (Put (Pdo First On) v)))
-  put-counts (Pdo First Transmission) v = (r .heartbeat, no-counts-in (pdoAfter (Put (Pdo First Transmission) v)))
-  put-counts (Pdo First Timer) v = (r .heartbeat, no-counts-in (pdoAfter (Put (Pdo First Timer) v)))
+  put-counts (Pdo First On) v = (r .heartbeat, no-counts-in (putPdo On v (u .running .pdo)))
+  put-counts (Pdo First Transmission) v = (r .heartbeat, no-counts-in (putPdo Transmission v (u .running .pdo)))
+  put-counts (Pdo First Timer) v = (r .heartbeat, no-counts-in (putPdo Timer v (u .running .pdo)))
   put-counts Resolution v = same
   put-counts (Operating X) v = same
   put-counts (Operating Y) v = same
@@ -102,7 +100,8 @@ module _ (u : State) (r : InRange u) where
   counts-in : (e : Change) → Counts e
   counts-in Keep = same
   counts-in (Put t v) = put-counts t v
-  counts-in (Zero a preset offset) = same
+  counts-in (Zero X preset offset) = same
+  counts-in (Zero Y preset offset) = same
   counts-in Empty = same
   counts-in (Fill c kind) = same
 
@@ -114,7 +113,7 @@ module _ (u : State) (r : InRange u) where
 
     -- what is stored is within the object table, as the running settings and factory are
     stored-in : (kind : ℕ) → inTable (storing kind (u .running)) ≡ true
-    stored-in kind = cond-both (λ (t : Settings). inTable t ≡ true) (eqb kind load) factory-in (r .running)
+    stored-in kind = cond-both (λ (t : Settings). inTable t ≡ true) (eqb kind loadKind) factory-in (r .running)
 
     fill-in : (c : Channel) (kind : ℕ) → Allowed u (Fill c kind) → Fits (onKept (Fill c kind) (storing kind (u .running)) (keptIn u))
     fill-in c kind a =
@@ -147,16 +146,16 @@ module _ (u : State) (r : InRange u) where
     own : (c : Channel) → transferOk (transferOf c u) ≡ true
     own c = every-get transferOk (transferring absent) refl (u .transfers) (right (eqb (length (u .transfers)) 2) (every transferOk (u .transfers)) (r .transfers)) (place c)
 
-    pub after-in : (c : Channel) (o : Outcome) → transferOk (o .transfer) ≡ true → Allowed u (o .change) → (inRange (after c o u) ≡ true) × (journalFits (after c o u) ≡ true)
+    pub after-in : (c : Channel) (o : Outcome) → transferOk (o .transfer) ≡ true → Allowed u (o .change) → (inRange (stateAfter c o u) ≡ true) × (journalFits (stateAfter c o u) ≡ true)
     after-in c o t a =
         let e = o .change in
         let k = kept-in e a in (
-          together (after c o u)
+          together (stateAfter c o u)
               (record {
                 node = r .node;
                 network = r .network;
                 saves = k .saves;
-                running = table-of (λ s. onSetting e s (was s)) (settings-in e a);
+                running = ap inTable (by-setting e (u .running)) ∙ table-of (λ s. onSetting e s (was s)) (settings-in e a);
                 errors = errors-in e;
                 heartbeat = counts-in e .0;
                 pdo = counts-in e .1;
@@ -169,7 +168,7 @@ module _ (u : State) (r : InRange u) where
 
 -- a request's outcome
 pub served-in : (c : Channel) (request : List ℕ) (u : State) → inRange u ≡ true → journalFits u ≡ true
-    → (inRange (after c (outcome c request u) u) ≡ true) × (journalFits (after c (outcome c request u) u) ≡ true)
+    → (inRange (stateAfter c (outcome c request u) u) ≡ true) × (journalFits (stateAfter c (outcome c request u) u) ≡ true)
 served-in c request u e fit =
     let r = parts u e in
     after-in u r fit c (outcome c request u) (transfer-in u c request (own u r fit c)) (allowed u c request)

@@ -68,9 +68,9 @@ module _ (u : State) (fine : NotRefused u) where
   -- the parts that the network, time and readings move
   moved-in : (network heartbeat : ℕ) (pdo : PdoCounts) (errors : ErrorList) (x y : Reading)
       → networkOk network ≡ true → elapsedOk (u .running .heartbeat) heartbeat ≡ true → countsOk (u .running .pdo) pdo ≡ true
-      → errorsOk errors ≡ true → axisOk x ≡ true → axisOk y ≡ true → NotRefused (moved network heartbeat pdo errors x y u)
+      → errorsOk errors ≡ true → axisOk x ≡ true → axisOk y ≡ true → NotRefused (moved network (u .running) errors heartbeat pdo (u .transfers) x y u)
   moved-in network heartbeat pdo errors x y n h p e f g = (
-    together (moved network heartbeat pdo errors x y u)
+    together (moved network (u .running) errors heartbeat pdo (u .transfers) x y u)
         (record { node = is .node; network = n; saves = is .saves; running = is .running; errors = e; heartbeat = h; pdo = p; transfers = is .transfers; x = f; y = g }),
     fine .1,
   )

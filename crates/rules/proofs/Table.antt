@@ -16,7 +16,8 @@ use Rattle.rules.specs.declared.objects.PdoSetting.the-variants.{On, Tra
 use Rattle.rules.specs.declared.objects.Setting.{Setting}
 use Rattle.rules.specs.declared.objects.Setting.the-variants.{Heartbeat, Pdo, Resolution, Operating, Preset, Offset, Differential}
 use Rattle.rules.specs.declared.settings.Settings.{Settings}
-use Rattle.rules.specs.Settings.{Held, every, inTable, setting, settings, settingsOf, within, pdoWithin}
+use Rattle.rules.specs.Settings.{Held, every, inTable, setting, settings, within, pdoWithin}
+use Rattle.rules.proofs.BySetting.{settingsOf}
 
 -- what holds of every element holds of the one at a place
 pub every-at : {A : Type 0} (p : A → Bool) (l : List A) → every p l ≡ true → (i : ℕ) → getD (map p l) i true ≡ true

@@ -14,14 +14,14 @@ use Rattle.rules.specs.declared.objects.PdoNumber.the-variants.{First}
 use Rattle.rules.specs.declared.parts.Identity.{Identity}
 use Rattle.rules.specs.declared.parts.Saves.{Saves}
 use Rattle.rules.specs.Events.{event}
-use Rattle.rules.specs.Frames.{bootUp}
+use Rattle.rules.specs.Frames.{bootUpFrame}
 use Rattle.rules.specs.Network.{start}
 use Rattle.rules.specs.PowerOn.{savesIn, powerOn}
 use Rattle.rules.specs.Readings.{fails, registerOf, withMeasured, onReading}
 use Rattle.rules.specs.Results.{Result, mostFrames}
 use Rattle.rules.specs.Service.{outcome}
 use Rattle.rules.specs.State.{State, stopped, reading}
-use Rattle.rules.specs.Time.{when, reaches, timerRuns, syncCounts, syncDue, onTick, onSync}
+use Rattle.rules.specs.Time.{whenDue, reaches, timerRuns, syncCounts, syncDue, onTick, onSync}
 use Rattle.rules.proofs.EachEvent.{each-event, power-each}
 
 abbrev Few : List Frame → Type 0
@@ -34,7 +34,7 @@ one : (f : Frame) → Few (f ∷ [])
 one f = omega arith
 
 -- a heartbeat and then a PDO, each where it is due
-two-due : (a b : Bool) (f g : Frame) → Few (when a f ++ when b g)
+two-due : (a b : Bool) (f g : Frame) → Few (whenDue a f ++ whenDue b g)
 two-due true true f g = omega arith
 two-due true false f g = omega arith
 two-due false true f g = omega arith
@@ -42,7 +42,7 @@ two-due false false f g = omega arith
 
 started : (node : ℕ) (identity : Identity) (saves : Saves) (j : List ℕ) → Few (start node identity saves j .sent)
 unfolding start
-started node identity saves j = cond-both (λ (l : List Frame). Few (bootUp node ∷ l)) (eqb (saves .spoiled) 0) (one (bootUp node)) (omega arith)
+started node identity saves j = cond-both (λ (l : List Frame). Few (bootUpFrame node ∷ l)) (eqb (saves .spoiled) 0) (one (bootUpFrame node)) (omega arith)
 
 module _ (u : State) where
   ticked : (ms : ℕ) → Few (onTick ms u .sent)
@@ -69,7 +69,7 @@ module _ (u : State) where
         stopped = none;
         preOperational = none;
         started = started (u .node) (u .identity) (u .saves) (u .journal);
-        communicated = one (bootUp (u .node));
+        communicated = one (bootUpFrame (u .node));
         synchronized = synchronized;
         ticked = ticked;
         measured = measured;

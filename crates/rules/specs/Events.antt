@@ -16,35 +16,35 @@ use Rattle.rules.specs.Network.{onNetwork}
 use Rattle.rules.specs.Ranges.{inRange}
 use Rattle.rules.specs.Readings.{onReading}
 use Rattle.rules.specs.Results.{Result, accepted, ignored, refused}
-use Rattle.rules.specs.Service.{outcome, after}
+use Rattle.rules.specs.Service.{outcome, stateAfter}
 use Rattle.rules.specs.State.{State}
 use Rattle.rules.specs.Time.{onTick, onSync}
 
 -- a request on a channel: "requests of 8 bytes only"
 abbrev pub answered : Channel → Outcome → State → Result
-answered c o u = accepted (after c o u) (cond (o .replies) (replyFrame c (u .node) (o .bytes) ∷ []) [])
+answered c o u = accepted (stateAfter c o u) (cond (o .replies) (replyFrame c (u .node) (o .bytes) ∷ []) [])
 
 unfoldable pub onService : Channel → List ℕ → ℕ → State → Result
-onService c bytes length u = cond (eqb length 8) (answered c (outcome c bytes u) u) (ignored u)
+onService c bytes size u = cond (eqb size 8) (answered c (outcome c bytes u) u) (ignored u)
 
 -- "NMT: identifier 0"; "A SYNC (80h, length 0)"; "Remote frames and frames that no rule below names do nothing"
 unfoldable pub onFrame : FrameHead → List ℕ → ℕ → State → Result
-onFrame f bytes length u =
+onFrame f bytes size u =
     cond (f .remote) (ignored u)
-    (cond (eqb (f .identifier) 0) (onNetwork bytes length u)
-    (cond (eqb (f .identifier) 0x80 && eqb length 0) (onSync u)
-    (cond (eqb (f .identifier) (requestsAt One + u .node)) (onService One bytes length u)
-    (cond (eqb (f .identifier) (requestsAt Two + u .node)) (onService Two bytes length u)
+    (cond (eqb (f .identifier) 0) (onNetwork bytes size u)
+    (cond (eqb (f .identifier) 0x80 && eqb size 0) (onSync u)
+    (cond (eqb (f .identifier) (requestsAt One + u .node)) (onService One bytes size u)
+    (cond (eqb (f .identifier) (requestsAt Two + u .node)) (onService Two bytes size u)
     (ignored u)))))
 
 -- "2 frame identifier over 7FFh or length over 8"
 abbrev pub frameOk : FrameHead → ℕ → Bool
-frameOk f length = leb (f .identifier) 0x7FF && leb length 8
+frameOk f size = leb (f .identifier) 0x7FF && leb size 8
 
 abbrev pub onEvent : Event → List ℕ → ℕ → State → Result
-onEvent (Received f) bytes length u = cond (frameOk f length) (onFrame f bytes length u) (refused 2 u)
-onEvent (Tick ms) bytes length u = onTick ms u
-onEvent (Measured a m) bytes length u = onReading a m u
+onEvent (Received f) bytes size u = cond (frameOk f size) (onFrame f bytes size u) (refused 2 u)
+onEvent (Tick ms) bytes size u = onTick ms u
+onEvent (Measured a m) bytes size u = onReading a m u
 
 -- "1 … not the length at power-on": 512 times the record's blocks
 abbrev pub journalFits : State → Bool
@@ -60,4 +60,4 @@ NotRefused u = (inRange u ≡ true) × (journalFits u ≡ true)
 
 -- the bytes stand beside the event, with the length that the frame names
 unfoldable pub event : Event → List ℕ → ℕ → State → Result
-event e bytes length u = cond (inRange u) (cond (journalFits u) (onEvent e bytes length u) (refused 1 u)) (refused 3 u)
+event e bytes size u = cond (inRange u) (cond (journalFits u) (onEvent e bytes size u) (refused 1 u)) (refused 3 u)

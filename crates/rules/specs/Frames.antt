@@ -30,16 +30,16 @@ repliesAt One = 0x580
 repliesAt Two = 0x6B0
 
 -- "boot-up (700h+node, 00h)"
-abbrev pub bootUp : ℕ → Frame
-bootUp node = frame (0x700 + node) (0 ∷ [])
+abbrev pub bootUpFrame : ℕ → Frame
+bootUpFrame node = frame (0x700 + node) (0 ∷ [])
 
 -- "one heartbeat (state 4, 5 or 127)"
-abbrev pub heartbeat : ℕ → ℕ → Frame
-heartbeat node network = frame (0x700 + node) (network ∷ [])
+abbrev pub heartbeatFrame : ℕ → ℕ → Frame
+heartbeatFrame node network = frame (0x700 + node) (network ∷ [])
 
 -- "EMCY: 80h+node, code, register, five zeros"
-abbrev pub emergency : ℕ → ℕ → ℕ → Frame
-emergency node code register = frame (0x80 + node) (two code ++ register ∷ 0 ∷ 0 ∷ 0 ∷ 0 ∷ 0 ∷ [])
+abbrev pub emergencyFrame : ℕ → ℕ → ℕ → Frame
+emergencyFrame node code register = frame (0x80 + node) (two code ++ register ∷ 0 ∷ 0 ∷ 0 ∷ 0 ∷ 0 ∷ [])
 
 -- "PDO: 180h+node, X then Y, 4 bytes"; by the PDO's number
 abbrev pub pdoAt : PdoNumber → ℕ

@@ -9,10 +9,11 @@ use Rattle.rules.specs.declared.events.Frame.{Frame}
 use Rattle.rules.specs.declared.parts.Identity.{Identity}
 use Rattle.rules.specs.declared.parts.Reading.{Reading}
 use Rattle.rules.specs.declared.parts.Saves.{Saves}
+use Rattle.rules.specs.declared.settings.Settings.{Settings}
 use Rattle.rules.specs.Errors.{noErrors, entered, register}
-use Rattle.rules.specs.Frames.{bootUp, emergency}
+use Rattle.rules.specs.Frames.{bootUpFrame, emergencyFrame}
 use Rattle.rules.specs.Results.{Result, accepted, ignored}
-use Rattle.rules.specs.State.{State, stopped, operational, preOperational, none, noTransfers, noCounts, withNetwork}
+use Rattle.rules.specs.State.{State, stopped, operational, preOperational, none, noTransfers, noCounts, moved, withNetwork}
 
 abbrev pub noReading : Reading
 noReading = record { state = none; m = pos 0 }
@@ -36,7 +37,7 @@ started node identity saves journal = record {
 
 -- "EMCY FF00h (register 81h) follows boot-up, listed, at power-on and after 81h"
 abbrev pub booted : ℕ → ℕ → List Frame
-booted node spoiled = bootUp node ∷ cond (eqb spoiled 0) [] (emergency node 0xFF00 (register spoiled none none) ∷ [])
+booted node spoiled = bootUpFrame node ∷ cond (eqb spoiled 0) [] (emergencyFrame node 0xFF00 (register spoiled none none) ∷ [])
 
 unfoldable pub start : ℕ → Identity → Saves → List ℕ → Result
 start node identity saves journal =
@@ -44,38 +45,23 @@ start node identity saves journal =
 
 -- "82h takes 1017 and 1800 from the stored settings"
 abbrev pub communicating : State → State
-communicating u = record {
-  node = u .node;
-  identity = u .identity;
-  network = preOperational;
-  saves = u .saves;
-  running = record {
-    heartbeat = u .saves .stored .heartbeat;
-    pdo = u .saves .stored .pdo;
-    resolution = u .running .resolution;
-    x = u .running .x;
-    y = u .running .y;
-  };
-  errors = u .errors;
-  heartbeat = 0;
-  pdo = noCounts;
-  transfers = noTransfers;
-  x = u .x;
-  y = u .y;
-  journal = u .journal;
-}
+communicating u =
+    let t = u .running in
+    let stored = u .saves .stored in
+    let running : Settings = record { heartbeat = stored .heartbeat; pdo = stored .pdo; resolution = t .resolution; x = t .x; y = t .y } in
+    moved preOperational running (u .errors) 0 noCounts noTransfers (u .x) (u .y) u
 
 -- "01h Operational, 02h Stopped, 80h Pre-Operational, 81h, 82h resets; a different command is ignored"; "Start zeroes the PDO's elapsed and SYNC counts"
-unfoldable pub onCommand : ℕ → State → Result
-onCommand command u =
+unfoldable pub onNetworkCommand : ℕ → State → Result
+onNetworkCommand command u =
     cond (eqb command 0x01) (ignored (withNetwork operational noCounts u))
     (cond (eqb command 0x02) (ignored (withNetwork stopped (u .pdo) u))
     (cond (eqb command 0x80) (ignored (withNetwork preOperational (u .pdo) u))
     (cond (eqb command 0x81) (start (u .node) (u .identity) (u .saves) (u .journal))
-    (cond (eqb command 0x82) (accepted (communicating u) (bootUp (u .node) ∷ []))
+    (cond (eqb command 0x82) (accepted (communicating u) (bootUpFrame (u .node) ∷ []))
     (ignored u)))))
 
 -- "length 2, node 0 or own"
 unfoldable pub onNetwork : List ℕ → ℕ → State → Result
-onNetwork bytes length u =
-    cond (eqb length 2 && (eqb (getD bytes 1 0) 0 || eqb (getD bytes 1 0) (u .node))) (onCommand (getD bytes 0 0) u) (ignored u)
+onNetwork bytes size u =
+    cond (eqb size 2 && (eqb (getD bytes 1 0) 0 || eqb (getD bytes 1 0) (u .node))) (onNetworkCommand (getD bytes 0 0) u) (ignored u)

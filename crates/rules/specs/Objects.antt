@@ -31,10 +31,6 @@ pub record Row : Type 0 where
 abbrev pub row : ℕ → ℕ → ℕ → Bool → Row
 row index subindex size writable = record { index = index; subindex = subindex; size = size; writable = writable }
 
--- an object is one index with one subindex
-abbrev pub sameObject : Row → Row → Bool
-sameObject a b = eqb (a .index) (b .index) && eqb (a .subindex) (b .subindex)
-
 -- types, by their length
 abbrev pub u8 : ℕ
 u8 = 1
@@ -110,6 +106,13 @@ settingRow (Operating a) = row (onAxis a 0x6011) 0 u8 readWrite
 settingRow (Preset a) = row (onAxis a 0x6012) 0 i16 readWrite
 settingRow (Offset a) = row (onAxis a 0x6013) 0 i16 readOnly
 settingRow (Differential a) = row (onAxis a 0x6014) 0 i16 readWrite
+
+-- a setting is told by its object, "one index with one subindex", and a PDO's settings by their index
+abbrev pub sameSetting : Setting → Setting → Bool
+sameSetting s t = eqb (settingRow s .index) (settingRow t .index) && eqb (settingRow s .subindex) (settingRow t .subindex)
+
+abbrev pub ofPdo : PdoNumber → Setting → Bool
+ofPdo n s = eqb (settingRow s .index) (onPdo n)
 
 -- the string `BASINTILT2` has ten bytes
 abbrev pub rowOf : Object → Row

@@ -1,9 +1,9 @@
 -- The device and what moves it, the ranges: what a device record holds that is not refused with 3.
-use mathlib.Core.Bool.{Bool, cond, not, _&&_, _||_}
+use mathlib.Core.Bool.{Bool, cond, _&&_, _||_}
 use mathlib.Core.List.{List}
 use Prim.Native.Nat.{ℕ}
 use lib.Dec.{eqb, ltb, leb}
-use lib.IntN.{ℤ, pos}
+use lib.IntN.{ℤ, pos, natAbs}
 use lib.ListN.{length, getD}
 use Rattle.rules.specs.declared.errors.ErrorList.{ErrorList}
 use Rattle.rules.specs.declared.objects.PdoNumber.the-variants.{First}
@@ -62,7 +62,7 @@ abbrev pub inside : ℤ → Bool
 inside m = betweenℤ (minus 180000) (pos 180000) m
 
 unfoldable pub axisOk : Reading → Bool
-axisOk x = leb (x .state) faulty && inside (x .m) && (not (eqb (x .state) none) || betweenℤ (pos 0) (pos 0) (x .m))
+axisOk x = leb (x .state) faulty && cond (eqb (x .state) none) (eqb (natAbs (x .m)) 0) (inside (x .m))
 
 -- identity is free
 unfoldable pub inRange : State → Bool

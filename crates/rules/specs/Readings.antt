@@ -9,7 +9,7 @@ use Rattle.rules.specs.declared.objects.Axis.{Axis}
 use Rattle.rules.specs.declared.objects.Axis.the-variants.{X, Y}
 use Rattle.rules.specs.declared.parts.Reading.{Reading}
 use Rattle.rules.specs.Errors.{entered, register}
-use Rattle.rules.specs.Frames.{emergency}
+use Rattle.rules.specs.Frames.{emergencyFrame}
 use Rattle.rules.specs.Ranges.{inside}
 use Rattle.rules.specs.Results.{Result, accepted}
 use Rattle.rules.specs.State.{State, stopped, good, faulty, reading, withReading}
@@ -42,8 +42,8 @@ withMeasured a m u =
 -- "EMCY: … code, register"; "A good reading that brings the register to 0 sends code 0000h, not listed"
 abbrev pub readingFrames : Axis → ℤ → State → State → List Frame
 readingFrames a m u v =
-    cond (fails m (reading a u)) (emergency (u .node) (faultCode a) (registerOf v) ∷ [])
-    (cond (not (eqb (registerOf u) 0) && eqb (registerOf v) 0) (emergency (u .node) 0 (registerOf v) ∷ []) [])
+    cond (fails m (reading a u)) (emergencyFrame (u .node) (faultCode a) (registerOf v) ∷ [])
+    (cond (not (eqb (registerOf u) 0) && eqb (registerOf v) 0) (emergencyFrame (u .node) 0 (registerOf v) ∷ []) [])
 
 unfoldable pub onReading : Axis → ℤ → State → Result
 onReading a m u =

@@ -26,11 +26,11 @@ commandOf first =
 abbrev pub command : List ℕ → Command
 command request = commandOf (getD request 0 0)
 
-abbrev pub index : List ℕ → ℕ
-index request = twoAt request 1
+abbrev pub indexOf : List ℕ → ℕ
+indexOf request = twoAt request 1
 
-abbrev pub subindex : List ℕ → ℕ
-subindex request = getD request 3 0
+abbrev pub subindexOf : List ℕ → ℕ
+subindexOf request = getD request 3 0
 
 -- the value that is written, in the object's own length
 abbrev pub valueFor : Object → List ℕ → ℕ

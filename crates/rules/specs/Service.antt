@@ -6,11 +6,11 @@ use lib.Dec.{eqb, ltb}
 use lib.IntN.{ℤ}
 use Rattle.rules.specs.declared.errors.ErrorList.{ErrorList}
 use Rattle.rules.specs.declared.objects.Axis.{Axis}
-use Rattle.rules.specs.declared.objects.Axis.the-variants.{X, Y}
 use Rattle.rules.specs.declared.objects.Channel.{Channel}
 use Rattle.rules.specs.declared.objects.Channel.the-variants.{One, Two}
 use Rattle.rules.specs.declared.objects.Found.{Found}
 use Rattle.rules.specs.declared.objects.Found.the-variants.{At, NoObject, NoSubindex}
+use Rattle.rules.specs.declared.objects.Object.{Object}
 use Rattle.rules.specs.declared.objects.PdoNumber.{PdoNumber}
 use Rattle.rules.specs.declared.objects.PdoNumber.the-variants.{First}
 use Rattle.rules.specs.declared.objects.PdoSetting.{PdoSetting}
@@ -28,16 +28,17 @@ use Rattle.rules.specs.declared.requests.Got.the-variants.{Number, Text,
 use Rattle.rules.specs.declared.requests.Outcome.{Outcome}
 use Rattle.rules.specs.declared.requests.Verdict.{Verdict}
 use Rattle.rules.specs.declared.requests.Verdict.the-variants.{Pass, Abort}
+use Rattle.rules.specs.declared.settings.PdoSettings.{PdoSettings}
 use Rattle.rules.specs.declared.settings.Settings.{Settings}
-use Rattle.rules.specs.Block.{block, channelNumber, load}
+use Rattle.rules.specs.Block.{block, channelNumber, loadKind}
 use Rattle.rules.specs.Errors.{noErrors}
 use Rattle.rules.specs.Journal.{putBehind}
 use Rattle.rules.specs.Numbers.{signed}
-use Rattle.rules.specs.Objects.{sameObject, settingRow, onPdo, objectAt}
+use Rattle.rules.specs.Objects.{sameSetting, ofPdo, objectAt}
 use Rattle.rules.specs.Reads.{readOf}
 use Rattle.rules.specs.Replies.{written, readNumber, readText, aborted, firstSegment, lastSegment, wrongToggle, noTransfer}
-use Rattle.rules.specs.Requests.{command, index, subindex, valueFor}
-use Rattle.rules.specs.Settings.{Held, setting, settingsOf, factory}
+use Rattle.rules.specs.Requests.{command, indexOf, subindexOf, valueFor}
+use Rattle.rules.specs.Settings.{factory, axisSettings, pdoSettings, withAxis, withPdo}
 use Rattle.rules.specs.State.{State, operational, preOperational, absent, atStart, afterSeven, transferring, noCounts, transferOf}
 use Rattle.rules.specs.Writes.{change, writeCheck}
 
@@ -69,14 +70,21 @@ onSegment toggle t =
     (cond (eqb (t .stage) atStart) (cond (eqb toggle 0) (replied firstSegment afterSeven Keep) (replied wrongToggle absent Keep))
     (cond (eqb toggle 1) (replied lastSegment absent Keep) (replied wrongToggle absent Keep)))
 
--- "Checks in order: first byte; object (06020000h); subindex (06090011h) …"; "All others get 05040001h"; "80h ends the transfer, no reply"
+-- "object (06020000h); subindex (06090011h)"; 0 where one is found
+abbrev pub missingCode : Found → ℕ
+missingCode (At o) = 0
+missingCode NoObject = 0x06020000
+missingCode NoSubindex = 0x06090011
+
+abbrev pub onFound : List ℕ → Found → (Object → Outcome) → Outcome
+onFound request (At o) on = on o
+onFound request NoObject on = refuse request (missingCode NoObject)
+onFound request NoSubindex on = refuse request (missingCode NoSubindex)
+
+-- "Checks in order: first byte; object …; subindex …"; "All others get 05040001h"; "80h ends the transfer, no reply"
 abbrev pub onCommand : Channel → List ℕ → Command → Found → State → Outcome
-onCommand c request (Write given) (At o) u = onWrite request (writeCheck given o (valueFor o request) u) (change c o (valueFor o request) u)
-onCommand c request (Write given) NoObject u = refuse request 0x06020000
-onCommand c request (Write given) NoSubindex u = refuse request 0x06090011
-onCommand c request Read (At o) u = onRead request (readOf o u)
-onCommand c request Read NoObject u = refuse request 0x06020000
-onCommand c request Read NoSubindex u = refuse request 0x06090011
+onCommand c request (Write given) f u = onFound request f (λ o. let v = valueFor o request in onWrite request (writeCheck given o v u) (change c o v u))
+onCommand c request Read f u = onFound request f (λ o. onRead request (readOf o u))
 onCommand c request (Segment toggle) f u = onSegment toggle (transferOf c u)
 onCommand c request End f u = silent (transferring absent)
 onCommand c request Unknown f u = refuse request 0x05040001
@@ -88,47 +96,41 @@ served network = eqb network preOperational || eqb network operational
 abbrev pub outcome : Channel → List ℕ → State → Outcome
 outcome c request u =
     cond (served (u .network))
-    (onCommand c request (command request) (objectAt (index request) (subindex request)) u)
+    (onCommand c request (command request) (objectAt (indexOf request) (subindexOf request)) u)
     (silent (transferOf c u))
 
--- a written value as a setting holds it; bit 31 of 1800:1 is "off"
-abbrev pub pdoValued : PdoSetting → ℕ → ℕ
-pdoValued On v = cond (ltb v 0x80000000) 1 0
-pdoValued Transmission v = v
-pdoValued Timer v = v
+-- a written value in its setting; bit 31 of 1800:1 is "off"
+abbrev pub putPdo : PdoSetting → ℕ → PdoSettings → PdoSettings
+putPdo On v s = record { on = cond (ltb v 0x80000000) 1 0; transmission = s .transmission; timer = s .timer }
+putPdo Transmission v s = record { on = s .on; transmission = v; timer = s .timer }
+putPdo Timer v s = record { on = s .on; transmission = s .transmission; timer = v }
 
-abbrev pub valued : (s : Setting) → ℕ → Held s
-valued Heartbeat v = v
-valued (Pdo n p) v = pdoValued p v
-valued Resolution v = v
-valued (Operating a) v = v
-valued (Preset a) v = signed 16 v
-valued (Offset a) v = signed 16 v
-valued (Differential a) v = signed 16 v
+-- an axis's preset, with the offset that comes with it
+abbrev pub zeroAt : Axis → ℤ → ℤ → Settings → Settings
+zeroAt a preset offset t =
+    let s = axisSettings a t in
+    withAxis a (record { operating = s .operating; preset = preset; offset = offset; differential = s .differential }) t
 
-abbrev pub sameAxis : Axis → Axis → Bool
-sameAxis X X = true
-sameAxis X Y = false
-sameAxis Y X = false
-sameAxis Y Y = true
-
--- an axis's preset and offset
-abbrev pub zeroedAt : Axis → ℤ → ℤ → (s : Setting) → Held s → Held s
-zeroedAt a preset offset Heartbeat x = x
-zeroedAt a preset offset (Pdo n p) x = x
-zeroedAt a preset offset Resolution x = x
-zeroedAt a preset offset (Operating b) x = x
-zeroedAt a preset offset (Preset b) x = cond (sameAxis a b) preset x
-zeroedAt a preset offset (Offset b) x = cond (sameAxis a b) offset x
-zeroedAt a preset offset (Differential b) x = x
+abbrev pub put : Setting → ℕ → Settings → Settings
+put Heartbeat v t = record { heartbeat = v; pdo = t .pdo; resolution = t .resolution; x = t .x; y = t .y }
+put (Pdo n p) v t = withPdo n (putPdo p v (pdoSettings n t)) t
+put Resolution v t = record { heartbeat = t .heartbeat; pdo = t .pdo; resolution = v; x = t .x; y = t .y }
+put (Operating a) v t =
+    let s = axisSettings a t in
+    withAxis a (record { operating = v; preset = s .preset; offset = s .offset; differential = s .differential }) t
+put (Preset a) v t = zeroAt a (signed 16 v) (axisSettings a t .offset) t
+put (Offset a) v t = zeroAt a (axisSettings a t .preset) (signed 16 v) t
+put (Differential a) v t =
+    let s = axisSettings a t in
+    withAxis a (record { operating = s .operating; preset = s .preset; offset = s .offset; differential = signed 16 v }) t
 
 -- "running ones wait for a reset": a save or a load leaves them
-abbrev pub onSetting : Change → (s : Setting) → Held s → Held s
-onSetting Keep s x = x
-onSetting (Put t v) s x = cond (sameObject (settingRow s) (settingRow t)) (valued s v) x
-onSetting (Zero a preset offset) s x = zeroedAt a preset offset s x
-onSetting Empty s x = x
-onSetting (Fill c kind) s x = x
+abbrev pub runningAfter : Change → Settings → Settings
+runningAfter Keep t = t
+runningAfter (Put s v) t = put s v t
+runningAfter (Zero a preset offset) t = zeroAt a preset offset t
+runningAfter Empty t = t
+runningAfter (Fill c kind) t = t
 
 abbrev pub onErrors : Change → ErrorList → ErrorList
 onErrors Keep x = x
@@ -139,7 +141,7 @@ onErrors (Fill c kind) x = x
 
 -- what is stored: "A save fills the next block with running settings, a load with factory settings"
 abbrev pub storing : ℕ → Settings → Settings
-storing kind t = cond (eqb kind load) factory t
+storing kind t = cond (eqb kind loadKind) factory t
 
 -- the settings that stand beside a change, factory where it stores none
 abbrev pub stores : Change → Settings → Settings
@@ -173,7 +175,7 @@ onKept (Fill c kind) t x = record {
 -- "A write to 1017 zeroes the heartbeat's" count
 abbrev pub onHeartbeat : Change → ℕ → ℕ
 onHeartbeat Keep x = x
-onHeartbeat (Put s v) x = cond (eqb (settingRow s .index) 0x1017) 0 x
+onHeartbeat (Put s v) x = cond (sameSetting s Heartbeat) 0 x
 onHeartbeat (Zero a preset offset) x = x
 onHeartbeat Empty x = x
 onHeartbeat (Fill c kind) x = x
@@ -181,7 +183,7 @@ onHeartbeat (Fill c kind) x = x
 -- "so does an accepted write to 1800": it zeroes the PDO's elapsed and SYNC counts
 abbrev pub onCounts : PdoNumber → Change → PdoCounts → PdoCounts
 onCounts n Keep x = x
-onCounts n (Put s v) x = cond (eqb (settingRow s .index) (onPdo n)) noCounts x
+onCounts n (Put s v) x = cond (ofPdo n s) noCounts x
 onCounts n (Zero a preset offset) x = x
 onCounts n Empty x = x
 onCounts n (Fill c kind) x = x
@@ -194,8 +196,8 @@ onTransfer Two One next x = x
 onTransfer Two Two next x = next
 
 -- the state after an outcome on a channel
-abbrev pub after : Channel → Outcome → State → State
-after c o u =
+abbrev pub stateAfter : Channel → Outcome → State → State
+stateAfter c o u =
     let e = o .change in
     let kept = onKept e (stores e (u .running)) (keptIn u) in
     record {
@@ -203,7 +205,7 @@ after c o u =
       identity = u .identity;
       network = u .network;
       saves = record { blocks = u .saves .blocks; filled = kept .filled; spoiled = u .saves .spoiled; stored = kept .stored };
-      running = settingsOf (λ s. onSetting e s (setting s (u .running)));
+      running = runningAfter e (u .running);
       errors = onErrors e (u .errors);
       heartbeat = onHeartbeat e (u .heartbeat);
       pdo = onCounts First e (u .pdo);

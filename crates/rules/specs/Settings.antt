@@ -55,21 +55,13 @@ setting (Preset a) t = axisSettings a t .preset
 setting (Offset a) t = axisSettings a t .offset
 setting (Differential a) t = axisSettings a t .differential
 
--- the settings with each one given
-abbrev pub axisOf : ((s : Setting) → Held s) → Axis → AxisSettings
-axisOf f a = record { operating = f (Operating a); preset = f (Preset a); offset = f (Offset a); differential = f (Differential a) }
+-- the settings with one axis's given, or one PDO's
+abbrev pub withAxis : Axis → AxisSettings → Settings → Settings
+withAxis X s t = record { heartbeat = t .heartbeat; pdo = t .pdo; resolution = t .resolution; x = s; y = t .y }
+withAxis Y s t = record { heartbeat = t .heartbeat; pdo = t .pdo; resolution = t .resolution; x = t .x; y = s }
 
-abbrev pub pdoSettingsOf : ((s : Setting) → Held s) → PdoNumber → PdoSettings
-pdoSettingsOf f n = record { on = f (Pdo n On); transmission = f (Pdo n Transmission); timer = f (Pdo n Timer) }
-
-abbrev pub settingsOf : ((s : Setting) → Held s) → Settings
-settingsOf f = record {
-  heartbeat = f Heartbeat;
-  pdo = pdoSettingsOf f First;
-  resolution = f Resolution;
-  x = axisOf f X;
-  y = axisOf f Y;
-}
+abbrev pub withPdo : PdoNumber → PdoSettings → Settings → Settings
+withPdo First s t = record { heartbeat = t .heartbeat; pdo = s; resolution = t .resolution; x = t .x; y = t .y }
 
 -- "1..240", the types that count SYNCs, and "254, 255", those that the timer drives
 abbrev pub synchronous : ℕ → Bool

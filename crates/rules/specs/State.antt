@@ -87,29 +87,29 @@ abbrev pub reading : Axis → State → Reading
 reading X u = u .x
 reading Y u = u .y
 
--- the state with what the network, time and readings move: NMT state, counts, error list, axes
-abbrev pub moved : ℕ → ℕ → PdoCounts → ErrorList → Reading → Reading → State → State
-moved network heartbeat pdo errors x y u = record {
+-- the state with what the network, time and readings move: NMT state, running settings, error list, counts, transfers, axes
+abbrev pub moved : ℕ → Settings → ErrorList → ℕ → PdoCounts → List Transfer → Reading → Reading → State → State
+moved network running errors heartbeat pdo transfers x y u = record {
   node = u .node;
   identity = u .identity;
   network = network;
   saves = u .saves;
-  running = u .running;
+  running = running;
   errors = errors;
   heartbeat = heartbeat;
   pdo = pdo;
-  transfers = u .transfers;
+  transfers = transfers;
   x = x;
   y = y;
   journal = u .journal;
 }
 
 abbrev pub withCounts : ℕ → PdoCounts → State → State
-withCounts heartbeat pdo u = moved (u .network) heartbeat pdo (u .errors) (u .x) (u .y) u
+withCounts heartbeat pdo u = moved (u .network) (u .running) (u .errors) heartbeat pdo (u .transfers) (u .x) (u .y) u
 
 abbrev pub withNetwork : ℕ → PdoCounts → State → State
-withNetwork network pdo u = moved network (u .heartbeat) pdo (u .errors) (u .x) (u .y) u
+withNetwork network pdo u = moved network (u .running) (u .errors) (u .heartbeat) pdo (u .transfers) (u .x) (u .y) u
 
 abbrev pub withReading : Axis → Reading → ErrorList → State → State
-withReading X r errors u = moved (u .network) (u .heartbeat) (u .pdo) errors r (u .y) u
-withReading Y r errors u = moved (u .network) (u .heartbeat) (u .pdo) errors (u .x) r u
+withReading X r errors u = moved (u .network) (u .running) errors (u .heartbeat) (u .pdo) (u .transfers) r (u .y) u
+withReading Y r errors u = moved (u .network) (u .running) errors (u .heartbeat) (u .pdo) (u .transfers) (u .x) r u

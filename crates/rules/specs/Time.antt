@@ -7,7 +7,7 @@ use Rattle.rules.specs.declared.events.Frame.{Frame}
 use Rattle.rules.specs.declared.objects.PdoNumber.{PdoNumber}
 use Rattle.rules.specs.declared.objects.PdoNumber.the-variants.{First}
 use Rattle.rules.specs.declared.parts.PdoCounts.{PdoCounts}
-use Rattle.rules.specs.Frames.{heartbeat, pdoFrame}
+use Rattle.rules.specs.Frames.{heartbeatFrame, pdoFrame}
 use Rattle.rules.specs.Results.{Result, accepted}
 use Rattle.rules.specs.Settings.{synchronous, timed, pdoSettings}
 use Rattle.rules.specs.State.{State, operational, pdoCounts, withCounts}
@@ -29,8 +29,8 @@ sending n u = eqb (u .network) operational && eqb (pdoSettings n (u .running) .o
 abbrev pub timerRuns : PdoNumber → State → Bool
 timerRuns n u = sending n u && timed (pdoSettings n (u .running) .transmission)
 
-abbrev pub when : Bool → Frame → List Frame
-when due f = cond due (f ∷ []) []
+abbrev pub whenDue : Bool → Frame → List Frame
+whenDue due f = cond due (f ∷ []) []
 
 abbrev pub pdoOf : PdoNumber → State → Frame
 pdoOf n u = pdoFrame n (u .node) (u .x) (u .y) (u .running)
@@ -43,13 +43,13 @@ ticked n ms u =
 
 abbrev pub tickSends : PdoNumber → ℕ → State → List Frame
 tickSends n ms u =
-    when (reaches (timerRuns n u) (pdoSettings n (u .running) .timer) (pdoCounts n u .elapsed) ms) (pdoOf n u)
+    whenDue (reaches (timerRuns n u) (pdoSettings n (u .running) .timer) (pdoCounts n u .elapsed) ms) (pdoOf n u)
 
 unfoldable pub onTick : ℕ → State → Result
 onTick ms u =
     let period = u .running .heartbeat in
     accepted (withCounts (elapsedAfter true period (u .heartbeat) ms) (ticked First ms u) u)
-    (when (reaches true period (u .heartbeat) ms) (heartbeat (u .node) (u .network)) ++ tickSends First ms u)
+    (whenDue (reaches true period (u .heartbeat) ms) (heartbeatFrame (u .node) (u .network)) ++ tickSends First ms u)
 
 -- "A SYNC … counts in Operational with PDO on and type 1 to 240; at the type the PDO goes out and the count is 0"
 abbrev pub syncCounts : PdoNumber → State → Bool
@@ -65,7 +65,7 @@ synced n u =
     cond (syncCounts n u) (record { elapsed = counts .elapsed; syncs = cond (syncDue n u) 0 (counts .syncs + 1) }) counts
 
 abbrev pub syncSends : PdoNumber → State → List Frame
-syncSends n u = when (syncCounts n u && syncDue n u) (pdoOf n u)
+syncSends n u = whenDue (syncCounts n u && syncDue n u) (pdoOf n u)
 
 unfoldable pub onSync : State → Result
 onSync u = accepted (withCounts (u .heartbeat) (synced First u) u) (syncSends First u)

@@ -18,7 +18,7 @@ use Rattle.rules.specs.declared.requests.Verdict.the-variants.{Pass, Abo
 use Rattle.rules.specs.declared.requests.Zeroed.{Zeroed}
 use Rattle.rules.specs.declared.requests.Zeroed.the-variants.{To, Refused}
 use Rattle.rules.specs.Angle.{zeroed}
-use Rattle.rules.specs.Block.{save, load}
+use Rattle.rules.specs.Block.{saveKind, loadKind}
 use Rattle.rules.specs.Frames.{pdoAt}
 use Rattle.rules.specs.Numbers.{signed}
 use Rattle.rules.specs.Objects.{rowOf}
@@ -53,17 +53,17 @@ pdoAccepts node n Transmission v = pdoWithin Transmission v
 pdoAccepts node n Timer v = pdoWithin Timer v
 
 -- what a write comes to: the check of its value, the check of the device state, and what it changes, by its channel, where both pass
-pub record Write : Type 0 where
+pub record WriteRow : Type 0 where
   pub value : Verdict
   pub state : Verdict
   pub change : Channel → Change
 
 -- what is read-only is refused before
-abbrev pub readOnlyWrite : Write
+abbrev pub readOnlyWrite : WriteRow
 readOnlyWrite = record { value = Pass; state = Pass; change = λ c. Keep }
 
 -- "value 06090030h"
-abbrev pub valueWrite : Bool → Change → Write
+abbrev pub valueWrite : Bool → Change → WriteRow
 valueWrite accepted e = record { value = unless accepted 0x06090030; state = Pass; change = λ c. e }
 
 -- "Spoiled: 06060000h; else full: 05040005h"
@@ -71,7 +71,7 @@ unfoldable pub roomCheck : ℕ → ℕ → ℕ → Verdict
 roomCheck spoiled filled blocks = unless (eqb spoiled 0) 0x06060000 then unless (ltb filled blocks) 0x05040005
 
 -- "wrong signature: 08000020h"; a save or a load fills the next block
-abbrev pub fillWrite : Bool → ℕ → State → Write
+abbrev pub fillWrite : Bool → ℕ → State → WriteRow
 fillWrite signature kind u = record {
   value = unless signature 0x08000020;
   state = roomCheck (u .saves .spoiled) (u .saves .filled) (u .saves .blocks);
@@ -93,11 +93,11 @@ abbrev pub zeroChange : Axis → ℕ → Zeroed → Change
 zeroChange a v (To offset) = Zero a (signed 16 v) offset
 zeroChange a v (Refused code) = Keep
 
-abbrev pub presetWrite : Axis → ℕ → Zeroed → Write
+abbrev pub presetWrite : Axis → ℕ → Zeroed → WriteRow
 presetWrite a v z = record { value = Pass; state = zeroCheck z; change = λ c. zeroChange a v z }
 
 -- the accepted values of a setting; every i16 is one
-abbrev pub settingWrite : Setting → ℕ → State → Write
+abbrev pub settingWrite : Setting → ℕ → State → WriteRow
 settingWrite Heartbeat v u = valueWrite (within Heartbeat v) (Put Heartbeat v)
 settingWrite (Pdo n p) v u = valueWrite (pdoAccepts (u .node) n p v) (Put (Pdo n p) v)
 settingWrite Resolution v u = valueWrite (within Resolution v) (Put Resolution v)
@@ -107,21 +107,21 @@ settingWrite (Offset a) v u = readOnlyWrite
 settingWrite (Differential a) v u = valueWrite true (Put (Differential a) v)
 
 -- 1003:0 "write 0 only; empties the list"; 1010:1 "save", 1011:1 "load"
-abbrev pub write : Object → ℕ → State → Write
-write (Const f) v u = readOnlyWrite
-write ErrorCount v u = valueWrite (eqb v 0) Empty
-write (ErrorEntry n) v u = readOnlyWrite
-write Name v u = readOnlyWrite
-write Save v u = fillWrite (eqb v 0x65766173) save u
-write Load v u = fillWrite (eqb v 0x64616F6C) load u
-write Filled v u = readOnlyWrite
-write (Angle a) v u = readOnlyWrite
-write (Of s) v u = settingWrite s v u
+abbrev pub writeOf : Object → ℕ → State → WriteRow
+writeOf (Const f) v u = readOnlyWrite
+writeOf ErrorCount v u = valueWrite (eqb v 0) Empty
+writeOf (ErrorEntry n) v u = readOnlyWrite
+writeOf Name v u = readOnlyWrite
+writeOf Save v u = fillWrite (eqb v 0x65766173) saveKind u
+writeOf Load v u = fillWrite (eqb v 0x64616F6C) loadKind u
+writeOf Filled v u = readOnlyWrite
+writeOf (Angle a) v u = readOnlyWrite
+writeOf (Of s) v u = settingWrite s v u
 
 -- "access, writing read-only (06010002h); length …; value …; device state"
 abbrev pub writeCheck : ℕ → Object → ℕ → State → Verdict
 writeCheck given o v u =
-    unless (rowOf o .writable) 0x06010002 then lengthCheck given (rowOf o .size) then write o v u .value then write o v u .state
+    unless (rowOf o .writable) 0x06010002 then lengthCheck given (rowOf o .size) then writeOf o v u .value then writeOf o v u .state
 
 abbrev pub change : Channel → Object → ℕ → State → Change
-change c o v u = write o v u .change c
+change c o v u = writeOf o v u .change c

@@ -13,13 +13,12 @@ use Rattle.rules.specs.declared.requests.Change.{Change}
 use Rattle.rules.specs.declared.requests.Outcome.{Outcome}
 use Rattle.rules.specs.declared.requests.Verdict.{Verdict}
 use Rattle.rules.specs.declared.requests.Verdict.the-variants.{Pass, Abort}
-use Rattle.rules.specs.Service.{refuse, onWrite}
+use Rattle.rules.specs.Service.{refuse, missingCode, onWrite}
 use Rattle.rules.specs.State.{transferOf}
 use Rattle.view.specs.declared.View.{View}
-use Rattle.view.specs.Seen.{seen}
+use Rattle.view.specs.Seen.{viewed}
 use Rattle.writes.specs.Written.{writtenOf}
-use Rattle.service.specs.Missing.{missingCode}
-use Rattle.service.specs.Wrote.{wrote}
+use Rattle.service.specs.Wrote.{outcomeOfWrite}
 
 -- where no object is, a read and a write are refused alike
 abbrev none : List ℕ
@@ -36,10 +35,10 @@ module _ (request : List ℕ) (on : Found → Outcome) where
   refused p q NoObject h = sym p
   refused p q NoSubindex h = sym q
 
-pub judged : (request : List ℕ) (v : Verdict) (e : Change) → wrote request (writtenOf v e) ≡ onWrite request v e
+pub judged : (request : List ℕ) (v : Verdict) (e : Change) → outcomeOfWrite request (writtenOf v e) ≡ onWrite request v e
 judged request Pass e = refl
 judged request (Abort code) e = refl
 
-pub own-transfer : (c : Channel) (v : View) → transferOf c (seen v) ≡ v .transfer
+pub own-transfer : (c : Channel) (v : View) → transferOf c (viewed v) ≡ v .transfer
 own-transfer One v = refl
 own-transfer Two v = refl

@@ -1,3 +1,2 @@
-pub mod Missing
 pub mod Wrote
 pub mod Transfers

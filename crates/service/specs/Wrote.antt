@@ -8,6 +8,6 @@ use Rattle.rules.specs.State.{absent}
 use Rattle.writes.specs.declared.Written.{Written}
 use Rattle.writes.specs.declared.Written.the-variants.{Changes, Refused}
 
-abbrev pub wrote : List ℕ → Written → Outcome
-wrote request (Changes e) = replied (written request) absent e
-wrote request (Refused code) = refuse request code
+abbrev pub outcomeOfWrite : List ℕ → Written → Outcome
+outcomeOfWrite request (Changes e) = replied (written request) absent e
+outcomeOfWrite request (Refused code) = refuse request code

@@ -17,12 +17,11 @@ ghost use Rattle.rules.specs.declared.requests.Change.the-variants.{Keep};
 ghost use Rattle.rules.specs.Objects.{objectAt};
 ghost use Rattle.rules.specs.Requests;
 ghost use Rattle.rules.specs.Service;
-ghost use Rattle.rules.specs.Service.{replied, onRead, onSegment, onCommand};
-ghost use Rattle.view.specs.Seen.{seen, Sound};
+ghost use Rattle.rules.specs.Service.{replied, missingCode, onRead, onSegment, onCommand};
+ghost use Rattle.view.specs.Seen.{viewed, Sound};
 ghost use lib.ListN.{getD};
 ghost use Rattle.rules.specs.State.{place, absent, transferring, noTransfers};
 ghost use Rattle.service.specs.Transfers.{transfersAfter};
-ghost use Rattle.service.specs.Missing.{missingCode};
 ghost use Rattle.service.specs.Wrote;
 
 // A reply with no change.
@@ -99,7 +98,7 @@ fn read_outcome(request: [u8; 8], got: Got) -> Outcome
 }
 
 fn write_outcome(request: [u8; 8], written: Written) -> Outcome
-    ensures { λ r. ⌜ r ≡ Wrote.wrote request written ⌝ }
+    ensures { λ r. ⌜ r ≡ Wrote.outcomeOfWrite request written ⌝ }
 {
     match written {
         Written::Changes(change) => Outcome {
@@ -116,14 +115,14 @@ fn write_outcome(request: [u8; 8], written: Written) -> Outcome
 
 // The object that a request names.
 fn find(request: [u8; 8]) -> Found
-    ensures { λ r. ⌜ r ≡ objectAt (Requests.index request) (Requests.subindex request) ⌝ }
+    ensures { λ r. ⌜ r ≡ objectAt (Requests.indexOf request) (Requests.subindexOf request) ⌝ }
 {
     objects::object_at(requests::index(request), requests::subindex(request))
 }
 
 fn read(request: [u8; 8], v: View) -> Outcome
     requires { ⌜ Sound v ⌝ }
-    ensures { λ r. ⌜ ((c : Channel) → r ≡ onCommand c request Read (objectAt (Requests.index request) (Requests.subindex request)) (seen v)) ⌝ }
+    ensures { λ r. ⌜ ((c : Channel) → r ≡ onCommand c request Read (objectAt (Requests.indexOf request) (Requests.subindexOf request)) (viewed v)) ⌝ }
 {
     let found = find(request);
     let Found::At(o) = found else {
@@ -135,7 +134,7 @@ fn read(request: [u8; 8], v: View) -> Outcome
 // The value is taken in the object's own length; the checks judge the length that is given.
 fn write(channel: Channel, request: [u8; 8], given: u8, v: View) -> Outcome
     requires { ⌜ Sound v ⌝ }
-    ensures { λ r. ⌜ r ≡ onCommand channel request (Write given) (objectAt (Requests.index request) (Requests.subindex request)) (seen v) ⌝ }
+    ensures { λ r. ⌜ r ≡ onCommand channel request (Write given) (objectAt (Requests.indexOf request) (Requests.subindexOf request)) (viewed v) ⌝ }
 {
     let found = find(request);
     let Found::At(o) = found else {
@@ -148,7 +147,7 @@ fn write(channel: Channel, request: [u8; 8], given: u8, v: View) -> Outcome
 // By the first byte.
 fn serve(channel: Channel, request: [u8; 8], v: View) -> Outcome
     requires { ⌜ Sound v ⌝ }
-    ensures { λ r. ⌜ r ≡ onCommand channel request (Requests.command request) (objectAt (Requests.index request) (Requests.subindex request)) (seen v) ⌝ }
+    ensures { λ r. ⌜ r ≡ onCommand channel request (Requests.command request) (objectAt (Requests.indexOf request) (Requests.subindexOf request)) (viewed v) ⌝ }
 {
     let command = requests::command(request[0]);
     match command {
@@ -171,7 +170,7 @@ fn is_served(network: u8) -> bool
 // What a request brings about, served in Pre-Operational and Operational.
 pub fn outcome(channel: Channel, request: [u8; 8], v: View) -> Outcome
     requires { ⌜ Sound v ⌝ }
-    ensures { λ r. ⌜ r ≡ Service.outcome channel request (seen v) ⌝ }
+    ensures { λ r. ⌜ r ≡ Service.outcome channel request (viewed v) ⌝ }
 {
     if is_served(v.network) {
         serve(channel, request, v)

@@ -6,8 +6,8 @@ use lib.Dec.{eqb, leb}
 use lib.ListN.{length}
 use Rattle.rules.specs.Journal.{blocksIn, run, spoiled}
 
-abbrev pub fits : List ℕ → Bool
-fits j = leb (blocksIn j) 4096 && eqb (length j) (512 * blocksIn j)
+abbrev pub fitsBlocks : List ℕ → Bool
+fitsBlocks j = leb (blocksIn j) 4096 && eqb (length j) (512 * blocksIn j)
 
 unfoldable pub probed : List ℕ → ℕ
-probed j = cond (fits j) (run (blocksIn j) j + 65536 * cond (spoiled (blocksIn j) j) 1 0) 0
+probed j = cond (fitsBlocks j) (run (blocksIn j) j + 65536 * cond (spoiled (blocksIn j) j) 1 0) 0

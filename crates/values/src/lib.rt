@@ -11,7 +11,7 @@ ghost use Rattle.rules.specs.declared.objects.PdoSetting.the-variants.{On};
 ghost use Rattle.rules.specs.Reads.{mapping as mappingOf, fixedValue, pdoValue, settingValue};
 ghost use Rattle.rules.specs.Readings.{registerOf};
 ghost use Rattle.rules.specs.Settings.{pdoSetting, setting};
-ghost use Rattle.view.specs.Seen.{seen};
+ghost use Rattle.view.specs.Seen.{viewed};
 
 fn mapping(axis: Axis) -> u32
     ensures { λ r. ⌜ r ≡ mappingOf axis ⌝ }
@@ -24,7 +24,7 @@ fn mapping(axis: Axis) -> u32
 
 // The objects that no request changes.
 pub fn fixed_value(f: Fixed, v: View) -> u32
-    ensures { λ r. ⌜ r ≡ fixedValue f (registerOf (seen v)) (v .node) (v .identity) (v .blocks) ⌝ }
+    ensures { λ r. ⌜ r ≡ fixedValue f (registerOf (viewed v)) (v .node) (v .identity) (v .blocks) ⌝ }
 {
     let node = v.node as u32;
     match f {

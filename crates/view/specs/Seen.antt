@@ -7,8 +7,8 @@ use Rattle.rules.specs.Settings.{factory, inTable}
 use Rattle.rules.specs.State.{State, noCounts}
 use Rattle.view.specs.declared.View.{View}
 
-abbrev pub seen : View → State
-seen v = record {
+abbrev pub viewed : View → State
+viewed v = record {
   node = v .node;
   identity = v .identity;
   network = v .network;

@@ -9,7 +9,7 @@ use rules::settings::Settings;
 ghost use mathlib.Core.Path.{_≡_};
 ghost use Rattle.rules.specs.Settings.{axisSettings};
 ghost use Rattle.rules.specs.State.{reading};
-ghost use Rattle.view.specs.Seen.{seen};
+ghost use Rattle.view.specs.Seen.{viewed};
 
 pub struct View {
     pub node: u8,
@@ -27,7 +27,7 @@ pub struct View {
 
 impl View {
     pub fn reading(self, axis: Axis) -> Reading
-        ensures { λ r. ⌜ r ≡ reading axis (seen self) ⌝ }
+        ensures { λ r. ⌜ r ≡ reading axis (viewed self) ⌝ }
     {
         match axis {
             Axis::X => self.x,

@@ -8,7 +8,7 @@ use Rattle.device.specs.declared.Stepped.{Stepped}
 use Rattle.device.specs.Promise.{Answered}
 use Rattle.rules.specs.declared.events.Event.{Event}
 use Rattle.basintilt.specs.declared.Happening.{Happening}
-use Rattle.basintilt.specs.Happenings.{eventOf, bytesIn}
+use Rattle.basintilt.specs.Happenings.{eventOf, lengthIn}
 use Rattle.basintilt.specs.Lent.{stepOf, journalOf}
 use Rattle.basintilt.proofs.step.Statement.{statement}
 use Rattle.basintilt.proofs.step.Tie as tie
@@ -16,7 +16,7 @@ use Rattle.basintilt.proofs.step.Tie as tie
 -- what the event promises, where it and its length are those that the numbers name
 named : (d : Device) (j : List ℕ) (h : Happening) (e : Event) (length : ℕ) (r : Stepped) (j′ : List ℕ)
     → e ≡ eventOf h
-    → length ≡ bytesIn h
+    → length ≡ lengthIn h
     → Answered d j e (h .bytes) length r j′
     → (r ≡ stepOf d j h) × (j′ ≡ journalOf d j h)
 unfolding journalOf stepOf

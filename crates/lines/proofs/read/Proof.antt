@@ -5,7 +5,7 @@ use native.Mathlib.Nat.{sub-zero}
 use native.Mathlib.Omega.{arith}
 use borrow.Author.Tests.{le-leb, lt-leb}
 use lib.ListN.{length}
-use Rattle.lines.specs.Collecting.{readText}
+use Rattle.lines.specs.Collecting.{textCollected}
 use borrow.Author.Needs.{needs}
 use Rattle.lines.proofs.read.Statement.{statement}
 use Rattle.lines.proofs.read.Tie as tie
@@ -26,11 +26,11 @@ part-parse-end c =
     within
 
 returns : tie.Need-returns
-unfolding readText
+unfolding textCollected
 returns c = simp (c .parse .ensures, sub-zero, le-leb _ _ (c .before .before .before .if1 .taken))
 
 returns-2 : tie.Need-returns-2
-unfolding readText
+unfolding textCollected
 returns-2 c = simp (c .plain .ensures, lt-leb _ _ (c .before .if1 .left))
 
 pub read-spec : {M : Type 1} → statement M

@@ -4,7 +4,7 @@ use Prim.Native.Nat.{_≤_}
 use borrow.Author.Tests.{eq-eqb, ne-eqb}
 use lib.ListN.{length, getD}
 use denote.Ref.{now}
-use Rattle.plain_lines.specs.Reading.{measured}
+use Rattle.plain_lines.specs.Reading.{measuredLine}
 use Rattle.plain_lines.proofs.Fields.{inside, rest}
 use borrow.Author.Needs.{needs}
 use Rattle.plain_lines.proofs.measured.Statement.{statement}
@@ -24,7 +24,7 @@ part-decimal-in-end : tie.Need-part-decimal-in-end
 part-decimal-in-end c = search needs
 
 returns : tie.Need-returns
-unfolding measured
+unfolding measuredLine
 returns c =
     let d = c .before .before .before in
     let s = now (d .before .before .before .args .field) in
@@ -32,7 +32,7 @@ returns c =
     (c .negative .ensures, c .before .decimal-in .ensures, rest s 1, eq-eqb (getD s 0 0) 0x2D (sym (d .before .byte-at .ensures) ∙ d .if1 .taken))
 
 returns-2 : tie.Need-returns-2
-unfolding measured
+unfolding measuredLine
 returns-2 c =
     let d = c .before .before in
     let s = now (d .before .before .before .args .field) in

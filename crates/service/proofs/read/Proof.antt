@@ -3,7 +3,7 @@ use mathlib.Core.Path.{refl, sym, _∙_}
 use borrow.Author.Needs.{needs}
 use Rattle.rules.specs.declared.requests.Command.the-variants.{Read}
 use Rattle.rules.specs.Service.{onCommand}
-use Rattle.view.specs.Seen.{seen}
+use Rattle.view.specs.Seen.{viewed}
 use Rattle.service.proofs.Laws.{refused}
 use Rattle.service.proofs.read.Statement.{statement}
 use Rattle.service.proofs.read.Tie as tie
@@ -20,7 +20,7 @@ read-spec =
     let f = c .before .before .before .find in
     let a = c .before .before .before .before .args in
     λ channel. simp (c .refuse .ensures, c .before .missing-code .ensures, sym (f .ensures))
-    (refused (a .request) (λ t. onCommand channel (a .request) Read t (seen (a .v))) refl refl (f .result) (c .before .before .match .keys2)))
+    (refused (a .request) (λ t. onCommand channel (a .request) Read t (viewed (a .v))) refl refl (f .result) (c .before .before .match .keys2)))
     (λ c κs. search needs)
     (λ c κs. search needs)
     (λ c.

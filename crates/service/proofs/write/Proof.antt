@@ -7,7 +7,7 @@ use Rattle.rules.specs.declared.requests.Command.the-variants.{Write}
 use Rattle.rules.specs.Requests.{valueFor}
 use Rattle.rules.specs.Service.{onCommand}
 use Rattle.rules.specs.Writes.{writeCheck, change}
-use Rattle.view.specs.Seen.{seen}
+use Rattle.view.specs.Seen.{viewed}
 use Rattle.service.proofs.Laws.{refused, judged}
 use Rattle.service.proofs.write.Statement.{statement}
 use Rattle.service.proofs.write.Tie as tie
@@ -24,7 +24,7 @@ write-spec =
     let f = c .before .before .before .find in
     let a = c .before .before .before .before .args in
     simp (c .refuse .ensures, c .before .missing-code .ensures, sym (f .ensures))
-    (refused (a .request) (λ t. onCommand (a .channel) (a .request) (Write (a .given)) t (seen (a .v))) refl refl (f .result) (c .before .before .match .keys2)))
+    (refused (a .request) (λ t. onCommand (a .channel) (a .request) (Write (a .given)) t (viewed (a .v))) refl refl (f .result) (c .before .before .match .keys2)))
     (λ c κs. search needs)
     (λ c κs. search needs)
     (λ c κs.
@@ -38,4 +38,4 @@ write-spec =
     let value = valueFor o (a .request) in
     simp (sym (at .before .before .find .ensures) ∙ at .found .given .1)
     (simp (c .write-outcome .ensures, c .before .write .ensures, c .before .before .value .ensures, c .before .before .before .size .ensures)
-    (judged (a .request) (writeCheck (a .given) o value (seen (a .v))) (change (a .channel) o value (seen (a .v)))))))
+    (judged (a .request) (writeCheck (a .given) o value (viewed (a .v))) (change (a .channel) o value (viewed (a .v)))))))

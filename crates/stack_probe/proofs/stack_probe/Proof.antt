@@ -11,11 +11,11 @@ use lib.Dec.{eqb, leb}
 use lib.ListN.{length}
 use Rattle.rules.specs.Journal.{blocksIn}
 use Rattle.laws.proofs.Bools.{left, right}
-use Rattle.stack_probe.specs.Probed.{fits, probed}
+use Rattle.stack_probe.specs.Probed.{fitsBlocks, probed}
 use Rattle.stack_probe.proofs.stack_probe.Statement.{statement}
 use Rattle.stack_probe.proofs.stack_probe.Tie as tie
 
-fitting : (j : List ℕ) → fits j ≡ true → (blocksIn j ≤ 4096) × (length j ≡ 512 * blocksIn j)
+fitting : (j : List ℕ) → fitsBlocks j ≡ true → (blocksIn j ≤ 4096) × (length j ≡ 512 * blocksIn j)
 fitting j e =
     let few = leb (blocksIn j) 4096 in
     let whole = eqb (length j) (512 * blocksIn j) in

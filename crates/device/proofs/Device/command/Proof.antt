@@ -1,12 +1,12 @@
 -- `Device::command` meets its contract: each arm knows its command, and the last that it is none of them.
 use borrow.Author.Needs.{needs}
 use borrow.Author.Tests.{ne-eqb}
-use Rattle.rules.specs.Network.{onCommand}
+use Rattle.rules.specs.Network.{onNetworkCommand}
 use Rattle.device.proofs.Device.command.Statement.{statement}
 use Rattle.device.proofs.Device.command.Tie as tie
 
 pub command-spec : {M : Type 1} → statement M
-unfolding onCommand
+unfolding onNetworkCommand
 command-spec =
     tie.close
     (tie.spec
