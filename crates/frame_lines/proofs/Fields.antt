@@ -17,7 +17,7 @@ use Rattle.hex_pairs.proofs.Pairs.{bytes-count}
 use Rattle.hex_pairs.specs.Pairs.{bytesIn}
 use Rattle.numerals.specs.Numerals.{digits}
 use Rattle.plain_lines.specs.declared.Line.the-variants.{Malformed}
-use Rattle.frame_lines.specs.Reading.{frameLine, frameOf, identifierIn, joined, plain, received, untilBlank}
+use Rattle.frame_lines.specs.Reading.{frameRead, frameOf, identifierIn, joined, plain, received, untilBlank}
 
 -- a blank, another byte, and the end
 pub blank-here : (s : List ℕ) (i : ℕ) → i < length s → getD s i 0 ≡ 0x20 → untilBlank (drop i s) ≡ 0
@@ -43,16 +43,16 @@ joined-few s e = to-most 1 9 (length s / 2) (one-of (digits 16 s) (eqb (length s
 
 module _ (s : List ℕ) (n : ℕ) (until : n ≡ untilBlank s) where
   -- an identifier alone, with bytes, and with what is no bytes
-  pub alone : n ≡ length s → received (identifierIn (take n s)) (elements 8 0 []) 0 ≡ frameLine s
-  unfolding frameLine frameOf bytesIn
+  pub alone : n ≡ length s → received (identifierIn (take n s)) (elements 8 0 []) 0 ≡ frameRead s
+  unfolding frameRead frameOf bytesIn
   alone e =
       let past : length s ≤ n + 1 = omega arith in
       rw (← until, eq-eqb n (length s) e, drop-of-length-le s past)
 
-  pub with-bytes : (n ≡ length s → ⊥) → joined (drop (n + 1) s) ≡ true → received (identifierIn (take n s)) (elements 8 0 (bytesIn (drop (n + 1) s))) (length (drop (n + 1) s) / 2) ≡ frameLine s
-  unfolding frameLine frameOf
+  pub with-bytes : (n ≡ length s → ⊥) → joined (drop (n + 1) s) ≡ true → received (identifierIn (take n s)) (elements 8 0 (bytesIn (drop (n + 1) s))) (length (drop (n + 1) s) / 2) ≡ frameRead s
+  unfolding frameRead frameOf
   with-bytes e j = rw (← until, ne-eqb n (length s) e, j, bytes-count)
 
-  pub without : (n ≡ length s → ⊥) → joined (drop (n + 1) s) ≡ false → plain Malformed ≡ frameLine s
-  unfolding frameLine
+  pub without : (n ≡ length s → ⊥) → joined (drop (n + 1) s) ≡ false → plain Malformed ≡ frameRead s
+  unfolding frameRead
   without e j = rw (← until, ne-eqb n (length s) e, j)

@@ -12,7 +12,7 @@ use Rattle.laws.proofs.Bools.{cond-both}
 use Rattle.numerals.proofs.Digits.{and-false, over}
 use Rattle.plain_lines.proofs.Long.{same}
 use Rattle.plain_lines.specs.declared.Line.the-variants.{Malformed}
-use Rattle.frame_lines.specs.Reading.{frameLine, frameOf, identifierIn, joined, plain, untilBlank}
+use Rattle.frame_lines.specs.Reading.{frameRead, frameOf, identifierIn, joined, plain, untilBlank}
 
 until-within : (s : List ℕ) → untilBlank s ≤ length s
 unfolding untilBlank
@@ -23,10 +23,10 @@ until-within (b ∷ s) =
 
 module _ (s : List ℕ) (long : 29 < length s) where
   -- the identifier is too long, or what stands behind it is
-  pub frame-long : frameLine s ≡ plain Malformed
-  unfolding frameLine frameOf identifierIn joined
+  pub frame-long : frameRead s ≡ plain Malformed
+  unfolding frameRead frameOf identifierIn joined
   frame-long = which (leb (untilBlank s) 8) refl where
-    which : (t : Bool) → leb (untilBlank s) 8 ≡ t → frameLine s ≡ plain Malformed
+    which : (t : Bool) → leb (untilBlank s) 8 ≡ t → frameRead s ≡ plain Malformed
     which true e =
         let few : untilBlank s ≤ 8 = leb-true (untilBlank s) 8 e in
         let many : 9 < length (drop (untilBlank s + 1) s) / 2 = simp length-drop (omega arith) in

@@ -41,8 +41,8 @@ unfoldable pub frameOf : Number → List ℕ → Parsed
 frameOf number bytes = received number (elements 8 0 bytes) (length bytes)
 
 -- "F, an identifier … and, if any, 1 to 9 bytes": the identifier alone, or a blank and bytes behind it
-unfoldable pub frameLine : List ℕ → Parsed
-frameLine field =
+unfoldable pub frameRead : List ℕ → Parsed
+frameRead field =
     cond (eqb (untilBlank field) (length field) || joined (drop (untilBlank field + 1) field))
     (frameOf (identifierIn (take (untilBlank field) field)) (bytesIn (drop (untilBlank field + 1) field)))
     (plain Malformed)

@@ -75,7 +75,7 @@ fn received(number: Number, bytes: [u8; 8], length: u8) -> Parsed
 }
 
 pub fn frame(field: &[u8]) -> Parsed
-    ensures { λ r. ⌜ r ≡ Reading.frameLine (now (field .entry)) ⌝ }
+    ensures { λ r. ⌜ r ≡ Reading.frameRead (now (field .entry)) ⌝ }
 {
     let n = until_blank(field);
     let number = identifier(&field[..n]);

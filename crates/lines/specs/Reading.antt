@@ -5,14 +5,14 @@ use Prim.Native.Nat.{ℕ}
 use lib.Dec.{eqb}
 use lib.ListN.{getD, drop}
 use Rattle.frame_lines.specs.declared.Parsed.{Parsed}
-use Rattle.frame_lines.specs.Reading.{frameLine, plain}
+use Rattle.frame_lines.specs.Reading.{frameRead, plain}
 use Rattle.plain_lines.specs.declared.Line.{Line}
 use Rattle.plain_lines.specs.declared.Line.the-variants.{PowerOn, Happens, Malformed}
 use Rattle.plain_lines.specs.Reading.{lineOf}
 
 -- the letter F
 unfoldable pub form : ℕ → List ℕ → Parsed
-form letter field = cond (eqb letter 0x46) (frameLine field) (plain (lineOf letter field))
+form letter field = cond (eqb letter 0x46) (frameRead field) (plain (lineOf letter field))
 
 -- a letter, a blank, and the fields behind it
 unfoldable pub parsed : List ℕ → Parsed

@@ -42,5 +42,6 @@ pub mod Check
 pub mod Block
 pub mod Journal
 pub mod Acknowledged
+-- What a request reads and writes: `crates/interleaving/specs/ReadsWrites.antt`
 -- Sample values
 pub mod Samples
