@@ -74,19 +74,16 @@ class Board:
             return file.read(BLOCK * BLOCKS)
 
 
-class Halt:
-    """Halts the board where it next enters a function, by the emulator's port for debuggers."""
+class Debugger:
+    """The emulator's port for debuggers: the board halts when it is opened, and runs on with `go`."""
 
-    def __init__(self, board, function):
+    def __init__(self, board):
+        self.board = board
         path = board.journal + ".debug"
         board.ask("human-monitor-command", **{"command-line": f"gdbserver unix:{path},server=on,wait=off"})
         self.port = socket.socket(socket.AF_UNIX)
         self.port.settimeout(8)
         self.port.connect(path)
-        self.tell(f"Z1,{board.symbol(function)[0]:x},2")
-        while self.heard() != "OK":  # before it stands the halt that the connection makes
-            pass
-        self.tell("c")
 
     def tell(self, text):
         self.port.sendall(f"${text}#{sum(text.encode()) % 256:02x}".encode())
@@ -99,6 +96,23 @@ class Halt:
         self.port.sendall(b"+")
         return said[said.index(b"$") + 1:said.index(b"#")].decode()
 
-    def reached(self):
+    def do(self, text):
+        """A command; before its answer stands the halt that the connection makes."""
+        self.tell(text)
+        while self.heard() != "OK":
+            pass
+
+    def halt_at(self, function):
+        """Has the board halt where it next enters the function."""
+        self.do(f"Z1,{self.board.symbol(function)[0]:x},2")
+
+    def write(self, variable, offset, value, size):
+        """Writes into a variable of the program."""
+        self.do(f"M{self.board.symbol(variable)[0] + offset:x},{size:x}:{value.to_bytes(size, 'little').hex()}")
+
+    def go(self):
+        self.tell("c")
+
+    def halted(self):
         """Waits for the halt."""
         return self.heard().startswith("T05")

@@ -6,7 +6,7 @@ import sys
 import time
 
 from desk import Desk
-from emulator import BLOCK, BLOCKS, Board, Halt
+from emulator import BLOCK, BLOCKS, Board, Debugger
 
 SAVE, LOAD = 0x65766173, 0x64616F6C
 firmware, wrong_size, wrong_node, folder = sys.argv[1:]
@@ -109,8 +109,11 @@ def heartbeat(desk):
     return took / 40
 
 
-def stamps(desk):
-    """Time stamps are the board's own: heartbeats stand exactly 25 ms apart."""
+def stamps(board, desk):
+    """Time stamps are the board's own: heartbeats stand exactly 25 ms apart, over the end of a minute too."""
+    debugger = Debugger(board)
+    debugger.write("millisecond", 0, 59800, 2)
+    debugger.go()
     desk.line("C")
     desk.line("Z1")
     desk.line("O")
@@ -120,6 +123,7 @@ def stamps(desk):
         found = re.fullmatch(rb".*t701105([0-9A-F]{4})\r", desk.port.read_until(b"\r"), re.DOTALL)
         times += [int(found[1], 16)] if found else []
     check("20 stamps", {(later - earlier) % 60000 for earlier, later in zip(times, times[1:])}, {25})
+    check("a minute's end", (max(times) < 60000, min(times) < times[0]), (True, True))
     desk.line("C")
     desk.line("Z0")
     desk.line("O")
@@ -183,9 +187,11 @@ def moments(board, desk):
     for function, filled in ("slcan_read", 3), ("uart_put", 4):
         check("no timed PDO", desk.write(1, 0x1800, 2, 1, 1), "written")
         desk.settled()
-        before, halt = board.blocks(), Halt(board, function)
+        before, debugger = board.blocks(), Debugger(board)
+        debugger.halt_at(function)
+        debugger.go()
         desk.send(0x681, "2310100173617665")
-        check(f"the halt at {function}", halt.reached(), True)
+        check(f"the halt at {function}", debugger.halted(), True)
         if filled == 4:
             saved(board, 4, 2, 1)
         else:
@@ -267,6 +273,23 @@ def unread(desk):
     return lines.count(b"t181400000080")
 
 
+def overwritten(board, desk):
+    """Someone writes into the record: its number is said once, and until the next start the sensor stands still."""
+    for offset, size, value, said in (105, 1, 7, b"!3\r"), (38, 2, BLOCKS - 1, b"!1\r"):
+        desk.settled()
+        blocks, debugger = board.blocks(), Debugger(board)
+        debugger.write("device", offset, value, size)
+        debugger.go()
+        check("an overwritten record", desk.port.read(3), said)
+        for line in "t6018" + "2310100173617665", "t0002" + "8101", "x1", "y1":
+            check(f"the answer to {line} then", desk.answer(line), b"\a")
+        check("the journal then", board.blocks() == blocks, True)
+        board.reset()
+        check("the line at the next start", desk.port.read(3), b"!0\r")
+        desk.bus.open()
+        check("filled blocks then", desk.read(1, 0x2100), 4)
+
+
 def full(board, desk):
     """Saves until the journal is full, then refused; the memory keeps what it has."""
     for place in range(5, BLOCKS + 1):
@@ -327,7 +350,7 @@ def main():
         zero(board, desk)
         sync(desk)
         period = heartbeat(desk)
-        stamps(desk)
+        stamps(board, desk)
         errors(desk)
         resets(desk)
         print(f"a plant desk by python-can: the paper's sample, angles, zero, saves, SYNC, heartbeat every {1000 * period:.1f} ms, errors, resets")
@@ -336,6 +359,8 @@ def main():
         print("a reset, a power cut behind a reply, before the save's event and before its reply: the journal has what it should")
         print(f"{malformed(board, desk)} malformed lines and one of 100,016 characters: a bell each, no byte of record and journal changed")
         print(f"a desk that does not read: {unread(desk)} of 6000 PDOs came, each whole")
+        overwritten(board, desk)
+        print("a record that someone wrote into: !3 or !1 once, then it stands still until the next start")
         full(board, desk)
         spoiled()
         print("a full journal and a spoiled one: saves refused, nothing changed")
