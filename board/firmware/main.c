@@ -21,11 +21,14 @@ __attribute__((section(".journal"))) uint8_t journal[JOURNAL_BYTES];
 static const struct basintilt_identity identity = {IDENTITY};
 struct basintilt_device device;
 
+/* The frames of power-on: they wait until the channel is opened, as a controller repeats its frame until another is on the bus. */
+static struct basintilt_answer booted;
+
 /* Whether the channel is open, whether frames are stamped, and the millisecond of the minute. */
 static uint8_t open, stamped;
 static uint16_t millisecond;
 
-/* The refusal after which the sensor stands still: 1, 3 or 4. */
+/* The refusal of an event after which the sensor stands still: 1 or 3. */
 static uint16_t standing;
 
 static void say(char character)
@@ -70,8 +73,8 @@ static void power_on(void)
 {
     struct basintilt_stepped stepped = basintilt_power_on(NODE, identity, journal, sizeof journal);
     device = stepped.device;
-    report(stepped.answer.refusal);
-    send_all(&stepped.answer);
+    booted = stepped.answer;
+    report(booted.refusal);
     tick(0);
 }
 
@@ -105,6 +108,10 @@ static void set(const struct slcan_command *command)
     if (command->kind == SLCAN_OPEN || command->kind == SLCAN_CLOSE)
         open = !open;
     say(SLCAN_END);
+    if (open) {
+        send_all(&booted);
+        booted.count = 0;
+    }
 }
 
 /* The serial number: the low 16 bits of the identity's. */

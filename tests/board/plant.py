@@ -29,6 +29,7 @@ def powered(program=firmware, said=b"!0\r", file=journal):
         board.go()
         check("the line at start", line.read(len(said)), said)
         desk = Desk(board.terminal)
+    check("boot-up behind the first O", desk.wait(0x701), "00")
     return board, desk
 
 
@@ -170,6 +171,7 @@ def restarts(board, desk):
     check("the line at a reset", desk.port.read(3), b"!0\r")
     check("a frame on a closed channel", desk.answer("t6018" + "4000100000000000"), b"\a")
     desk.bus.open()
+    check("boot-up behind a reset", desk.wait(0x701), "00")
     kept(desk, 2)
     check("what was not saved", desk.read(1, 0x1017), 0)
     check("the journal over a reset", board.blocks(), before)
@@ -318,9 +320,10 @@ def spoiled():
         file.seek(100 * BLOCK + 9)
         file.write(b"\0")
     board, desk = powered()
+    check("EMCY of the journal at power-on", desk.wait(0x081), "00FF810000000000")
     desk.send(0x000, "8101")
     check("boot-up on a spoiled journal", desk.wait(0x701), "00")
-    check("EMCY of the journal", desk.wait(0x081), "00FF810000000000")
+    check("EMCY of the journal behind 81h", desk.wait(0x081), "00FF810000000000")
     check("the blocks before", desk.read(1, 0x2100), 100)
     check("a save on it", desk.write(1, 0x1010, 1, SAVE, 4), "abort 06060000")
     desk.leave()
