@@ -12,12 +12,15 @@ BLOCKS = 128
 
 
 class Board:
-    """A board that stands still until `go`; `terminal` is the name of its line."""
+    """A board that stands still until `go`; `terminal` is the name of its line, `started` has all boards."""
+
+    started = []
 
     def __init__(self, program, journal):
         self.program, self.journal = program, journal
         self.process = subprocess.Popen(
             [f"{TOP}/board/firmware/run", journal, program, "-S", "-qmp", "stdio"], stdin=subprocess.PIPE, stdout=subprocess.PIPE, text=True)
+        Board.started.append(self)
         self.ask("qmp_capabilities")
         lines = {line["label"]: line["filename"] for line in self.ask("query-chardev")}
         self.terminal = lines["serial0"].removeprefix("pty:")

@@ -22,6 +22,12 @@ def check(what, got, wanted):
         print(f"FAILED: {what}: {got}, not {wanted}")
 
 
+def tell(what):
+    """Says what was seen, where nothing differed until here."""
+    if not failures:
+        print(what)
+
+
 def powered(program=firmware, said=b"!0\r", file=journal):
     """A board that has started and has said so, and a desk at its line."""
     board = Board(program, file)
@@ -345,33 +351,41 @@ def refused(program, said):
     board.cut()
 
 
-def main():
+def day():
+    """All of it, one behind the other."""
     board, desk = powered()
+    sample(board, desk)
+    angles(desk)
+    zero(board, desk)
+    sync(desk)
+    period = heartbeat(desk)
+    stamps(board, desk)
+    errors(desk)
+    resets(desk)
+    tell(f"a plant desk by python-can: the paper's sample, angles, zero, saves, SYNC, heartbeat every {1000 * period:.1f} ms, errors, resets")
+    board, desk = restarts(board, desk)
+    board, desk = moments(board, desk)
+    tell("a reset, a power cut behind a reply, before the save's event and before its reply: the journal has what it should")
+    lines = malformed(board, desk)
+    tell(f"{lines} malformed lines and one of 100,016 characters: a bell each, no byte of record and journal changed")
+    came = unread(desk)
+    tell(f"a desk that does not read: {came} of 6000 PDOs came, each whole")
+    overwritten(board, desk)
+    tell("a record that someone wrote into: !3 or !1 once, then it stands still until the next start")
+    full(board, desk)
+    spoiled()
+    tell("a full journal and a spoiled one: saves refused, nothing changed")
+    refused(wrong_size, b"!1\r!3\r")
+    refused(wrong_node, b"!4\r!3\r")
+    tell("a journal of a wrong size says !1 !3 at start, a wrong node !4 !3")
+
+
+def main():
     try:
-        sample(board, desk)
-        angles(desk)
-        zero(board, desk)
-        sync(desk)
-        period = heartbeat(desk)
-        stamps(board, desk)
-        errors(desk)
-        resets(desk)
-        print(f"a plant desk by python-can: the paper's sample, angles, zero, saves, SYNC, heartbeat every {1000 * period:.1f} ms, errors, resets")
-        board, desk = restarts(board, desk)
-        board, desk = moments(board, desk)
-        print("a reset, a power cut behind a reply, before the save's event and before its reply: the journal has what it should")
-        print(f"{malformed(board, desk)} malformed lines and one of 100,016 characters: a bell each, no byte of record and journal changed")
-        print(f"a desk that does not read: {unread(desk)} of 6000 PDOs came, each whole")
-        overwritten(board, desk)
-        print("a record that someone wrote into: !3 or !1 once, then it stands still until the next start")
-        full(board, desk)
-        spoiled()
-        print("a full journal and a spoiled one: saves refused, nothing changed")
-        refused(wrong_size, b"!1\r!3\r")
-        refused(wrong_node, b"!4\r!3\r")
-        print("a journal of a wrong size says !1 !3 at start, a wrong node !4 !3")
+        day()
     finally:
-        board.process.kill()
+        for board in Board.started:
+            board.process.kill()
     print(f"{checks} checks, {len(failures)} failures")
     sys.exit(1 if failures else 0)
 
