@@ -1,5 +1,6 @@
 # What a plant desk does with the emulated board, held against document 01: plant.py FIRMWARE WRONG_SIZE WRONG_NODE FOLDER.
 import binascii
+import os
 import random
 import re
 import sys
@@ -19,7 +20,9 @@ def check(what, got, wanted):
     checks += 1
     if got != wanted:
         failures.append(what)
-        print(f"FAILED: {what}: {got}, not {wanted}")
+        print(f"FAILED: {what}: {got}, not {wanted}", flush=True)
+        if "FIRST" in os.environ:
+            sys.exit(1)
 
 
 def tell(what):
@@ -119,9 +122,13 @@ def heartbeat(desk):
 def stamps(board, desk):
     """Time stamps are the board's own: heartbeats stand exactly 25 ms apart, over the end of a minute too."""
     debugger = Debugger(board)
-    debugger.write("millisecond", 0, 59800, 2)
+    debugger.write("millisecond", 0, 59400, 2)
     debugger.go()
     desk.line("C")
+    time.sleep(0.2)
+    desk.port.reset_input_buffer()
+    time.sleep(0.2)
+    check("a closed channel is silent", desk.port.in_waiting, 0)
     desk.line("Z1")
     desk.line("O")
     desk.port.timeout = 8
@@ -134,6 +141,7 @@ def stamps(board, desk):
     desk.line("C")
     desk.line("Z0")
     desk.line("O")
+    check("boot-up is not sent again", (0x701, "00") in desk.settled(), False)
 
 
 def errors(desk):
@@ -266,7 +274,7 @@ def unread(desk):
     desk.send(0x000, "0101")
     desk.settled()
     for _ in range(60):
-        desk.port.write(100 * b"t0800\r")
+        desk.port.write(50 * b"t0800\rV\rt0800\r")
     time.sleep(1)
     text = b""
     while True:
@@ -276,7 +284,7 @@ def unread(desk):
         if not more:
             break
     lines = text.split(b"\r")
-    check("every line is whole", sorted(set(lines)), [b"", b"t181400000080", b"z"])
+    check("every line is whole", sorted(set(lines)), [b"", b"V0101", b"t181400000080", b"z"])
     check("angle X behind it", desk.read(1, 0x6010), 0)
     return lines.count(b"t181400000080")
 
