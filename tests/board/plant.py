@@ -1,4 +1,4 @@
-# What a plant desk does with the emulated board, held against document 01: plant.py FIRMWARE WRONG_SIZE WRONG_NODE FOLDER.
+# What a plant desk does with the emulated board, held against document 01: plant.py FOLDER, which has the firmwares that run builds.
 import binascii
 import os
 import random
@@ -10,8 +10,8 @@ from desk import Desk
 from emulator import BLOCK, BLOCKS, Board, Debugger
 
 SAVE, LOAD = 0x65766173, 0x64616F6C
-firmware, wrong_size, wrong_node, folder = sys.argv[1:]
-journal = f"{folder}/journal"
+folder = sys.argv[1]
+firmware, journal = f"{folder}/firmware.elf", f"{folder}/journal"
 checks, failures = 0, []
 
 
@@ -383,8 +383,8 @@ def day():
     full(board, desk)
     spoiled()
     tell("a full journal and a spoiled one: saves refused, nothing changed")
-    refused(wrong_size, b"!1\r!3\r")
-    refused(wrong_node, b"!4\r!3\r")
+    for name, said in ("part_of_a_block", b"!1\r!3\r"), ("too_many_blocks", b"!1\r!3\r"), ("wrong_node", b"!4\r!3\r"):
+        refused(f"{folder}/{name}.elf", said)
     tell("a journal of a wrong size says !1 !3 at start, a wrong node !4 !3")
 
 
