@@ -134,7 +134,7 @@ static size_t others(void)
 
 static int over(const char *what, unsigned blocks, size_t bytes, size_t enough)
 {
-    printf("%s, %u blocks: %zu bytes of stack%s\n", what, blocks, bytes, bytes > enough ? ", TOO MANY" : "");
+    printf("%s, %u blocks: %u bytes of stack%s\n", what, blocks, (unsigned)bytes, bytes > enough ? ", TOO MANY" : "");
     return bytes > enough;
 }
 
