@@ -68,7 +68,7 @@ bool fields_are_all_bytes(void)
     return end == sizeof(struct basintilt_device);
 }
 
-/* The numbers of x86-64 stand low byte first, so a number's low bytes are its first ones. */
+/* The numbers of x86-64 and of a Cortex-M stand low byte first, so a number's low bytes are its first ones. */
 static uint32_t number_in(const struct basintilt_device *device, const struct field *field)
 {
     uint32_t number = 0;

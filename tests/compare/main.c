@@ -1,4 +1,5 @@
-/* Holds the library and the reference sensor together: compare EVENTS SEED, or compare break. */
+/* Holds the library and the reference sensor together: compare EVENTS SEED [STRIDE], or compare break.
+ * With a stride the longest rows of built cases are thinned out: one case in so many is made. */
 #include "built.h"
 #include "counts.h"
 #include "history.h"
@@ -18,10 +19,10 @@ static void show_difference(uint64_t seed)
     show_history();
 }
 
-static bool compare(uint64_t events, uint64_t seed)
+static bool compare(uint64_t events, uint64_t seed, uint32_t stride)
 {
     struct chance chance = {seed};
-    bool same = built_cases();
+    bool same = built_cases(stride);
     printf("built cases: %llu events\n", (unsigned long long)counts.calls[EVENT]);
     while (same && counts.calls[EVENT] < events) {
         same = wander(any64(&chance));
@@ -69,11 +70,12 @@ int main(int count, char **words)
             passed = sees_fault((enum fault)fault) && passed;
         }
         printf(passed ? "each difference made on purpose was seen and shrunk\n" : "FAILED: one was not seen, or its history stayed long\n");
-    } else if (count == 3) {
-        passed = compare(strtoull(words[1], NULL, 10), strtoull(words[2], NULL, 10));
+    } else if (count == 3 || count == 4) {
+        uint32_t stride = count == 4 ? (uint32_t)strtoul(words[3], NULL, 10) : 1;
+        passed = compare(strtoull(words[1], NULL, 10), strtoull(words[2], NULL, 10), stride);
         printf("%llu events compared: %s\n", (unsigned long long)counts.calls[EVENT], passed ? "no difference" : "FAILED");
     } else {
-        printf("compare EVENTS SEED, or compare break\n");
+        printf("compare EVENTS SEED [STRIDE], or compare break\n");
         passed = false;
     }
     return passed ? 0 : 1;

@@ -3,6 +3,7 @@
 #include "journals.h"
 #include "records.h"
 
+#include <inttypes.h>
 #include <stdio.h>
 
 static void show_bytes(const uint8_t *bytes, unsigned length)
@@ -18,7 +19,7 @@ static void show_happening(const struct basintilt_happening *happening)
     case BASINTILT_FRAME:
     case BASINTILT_REMOTE_FRAME:
         printf(happening->kind == BASINTILT_FRAME ? "frame" : "remote frame");
-        printf(" %03X length %u ", happening->identifier, happening->length);
+        printf(" %03" PRIX32 " length %u ", happening->identifier, happening->length);
         show_bytes(happening->bytes, happening->length);
         break;
     case BASINTILT_TICK:
@@ -26,7 +27,7 @@ static void show_happening(const struct basintilt_happening *happening)
         break;
     case BASINTILT_READING_X:
     case BASINTILT_READING_Y:
-        printf("reading %s %d", happening->kind == BASINTILT_READING_X ? "X" : "Y", happening->m);
+        printf("reading %s %" PRId32, happening->kind == BASINTILT_READING_X ? "X" : "Y", happening->m);
         break;
     default:
         printf("event of kind %u", happening->kind);
@@ -67,30 +68,31 @@ static void show_call(const struct call *call)
 {
     switch (call->kind) {
     case POWER_ON:
-        printf("power-on node %u identity %X %X", call->power_on.node, call->power_on.identity.vendor, call->power_on.identity.product);
-        printf(" %X %X", call->power_on.identity.revision, call->power_on.identity.serial);
+        printf("power-on node %" PRIu32 " identity", call->power_on.node);
+        printf(" %" PRIX32 " %" PRIX32, call->power_on.identity.vendor, call->power_on.identity.product);
+        printf(" %" PRIX32 " %" PRIX32, call->power_on.identity.revision, call->power_on.identity.serial);
         break;
     case EVENT:
         show_happening(&call->happening);
         break;
     case BLOCK_QUERY:
-        printf("block query at byte %u, place %u", call->query.at, call->query.place);
+        printf("block query at byte %" PRIu32 ", place %" PRIu32, call->query.at, call->query.place);
         break;
     case JOURNAL_MADE:
         show_made_journal(call);
         break;
     case BYTE_WRITTEN:
-        printf("byte %u of the journal becomes %02Xh", call->written.at, call->written.number & 0xFF);
+        printf("byte %" PRIu32 " of the journal becomes %02" PRIX32 "h", call->written.at, call->written.number & 0xFF);
         break;
     case RECORD_MADE:
         show_made_record(call);
         break;
     default:
-        printf("field %s becomes %08Xh", fields[call->written.at].name, call->written.number);
+        printf("field %s becomes %08" PRIX32 "h", fields[call->written.at].name, call->written.number);
         break;
     }
     if (call->kind == POWER_ON || call->kind == EVENT || call->kind == BLOCK_QUERY) {
-        printf(", over %u bytes", call->length);
+        printf(", over %" PRIu32 " bytes", call->length);
     }
 }
 

@@ -2,6 +2,7 @@
 #include "counts.h"
 #include "tally.h"
 
+#include <inttypes.h>
 #include <stdio.h>
 #include <string.h>
 
@@ -40,7 +41,7 @@ static void show_reply(unsigned which)
 
 static void show_abort(unsigned which)
 {
-    printf("%08Xh of channel %u", abort_codes[which % ABORTS], which / ABORTS + 1);
+    printf("%08" PRIX32 "h of channel %u", abort_codes[which % ABORTS], which / ABORTS + 1);
 }
 
 static void show_channel(unsigned which)

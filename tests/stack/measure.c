@@ -9,8 +9,8 @@ enum { STACK_BYTES = 32768, PAINT = 0xA5, BLOCKS_TRIED = 3, BLOCKS_PROBED = 4096
 /* What docs/INTEGRATION.md says is enough. */
 enum { ENOUGH_FOR_POWER_ON = 2048, ENOUGH_FOR_EVENT = 2048, ENOUGH_FOR_QUERY = 256 };
 
-/* crates/stack_probe: the filled blocks, and 65,536 more where the journal is spoiled. */
-uint32_t stack_probe(const uint8_t *journal, size_t journal_length);
+/* crates/stack_probe: the filled blocks, and 65,536 more where the journal is spoiled. Its length has 64 bits on a 32-bit machine too. */
+uint32_t stack_probe(const uint8_t *journal, uint64_t journal_length);
 
 static uint8_t stack[STACK_BYTES] __attribute__((aligned(16)));
 static uint8_t journal[BLOCKS_PROBED * BASINTILT_BLOCK_BYTES];
@@ -42,16 +42,32 @@ static void probe(void)
     probed = stack_probe(journal, journal_length);
 }
 
+/* Makes the call on another stack. The own stack's place waits in a register that the call keeps. */
+#if defined(__x86_64__)
+static void call_on(uint8_t *top, void (*call)(void))
+{
+    __asm__ volatile("movq %%rsp, %%rbx\n\tmovq %0, %%rsp\n\tcallq *%1\n\tmovq %%rbx, %%rsp"
+                     :
+                     : "r"(top), "r"(call)
+                     : "rax", "rbx", "rcx", "rdx", "rsi", "rdi", "r8", "r9", "r10", "r11", "cc", "memory", "xmm0",
+                       "xmm1", "xmm2", "xmm3", "xmm4", "xmm5", "xmm6", "xmm7", "xmm8", "xmm9", "xmm10", "xmm11", "xmm12", "xmm13", "xmm14", "xmm15");
+}
+#elif defined(__arm__)
+static void call_on(uint8_t *top, void (*call)(void))
+{
+    __asm__ volatile("mov r4, sp\n\tmov sp, %0\n\tblx %1\n\tmov sp, r4"
+                     :
+                     : "r"(top), "r"(call)
+                     : "r0", "r1", "r2", "r3", "r4", "r12", "lr", "cc", "memory");
+}
+#endif
+
 /* The bytes between the top of the painted stack and the deepest changed one. */
 static size_t depth(void (*call)(void))
 {
     size_t untouched = 0;
     memset(stack, PAINT, sizeof stack);
-    __asm__ volatile("movq %%rsp, %%rbx\n\tmovq %0, %%rsp\n\tcallq *%1\n\tmovq %%rbx, %%rsp"
-                     :
-                     : "r"(stack + sizeof stack), "r"(call)
-                     : "rax", "rbx", "rcx", "rdx", "rsi", "rdi", "r8", "r9", "r10", "r11", "cc", "memory", "xmm0",
-                       "xmm1", "xmm2", "xmm3", "xmm4", "xmm5", "xmm6", "xmm7", "xmm8", "xmm9", "xmm10", "xmm11", "xmm12", "xmm13", "xmm14", "xmm15");
+    call_on(stack + sizeof stack, call);
     while (untouched < sizeof stack && stack[untouched] == PAINT)
         untouched++;
     return sizeof stack - untouched;
@@ -118,7 +134,7 @@ static size_t others(void)
 
 static int over(const char *what, unsigned blocks, size_t bytes, size_t enough)
 {
-    printf("%s, %u blocks: %zu bytes of stack%s\n", what, blocks, bytes, bytes > enough ? ", TOO MANY" : "");
+    printf("%s, %u blocks: %u bytes of stack%s\n", what, blocks, (unsigned)bytes, bytes > enough ? ", TOO MANY" : "");
     return bytes > enough;
 }
 
