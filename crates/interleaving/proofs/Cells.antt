@@ -1,6 +1,6 @@
 -- The state seen as cells: the parts that service requests act on, each by itself.
 use mathlib.Core.Path.{_≡_, refl}
-use mathlib.Core.List.{List, [], _∷_}
+use mathlib.Core.List.{[], _∷_}
 use Prim.Native.Nat.{ℕ}
 use Rattle.rules.proofs.BySetting.{settingsOf}
 use Rattle.rules.proofs.Table.{setting-of}
@@ -16,7 +16,6 @@ use Rattle.rules.specs.declared.parts.Identity.{Identity}
 use Rattle.rules.specs.declared.parts.PdoCounts.{PdoCounts}
 use Rattle.rules.specs.declared.parts.Reading.{Reading}
 use Rattle.rules.specs.declared.parts.Transfer.{Transfer}
-use Rattle.rules.specs.declared.settings.Settings.{Settings}
 use Rattle.rules.specs.Service.{Kept, keptIn}
 use Rattle.rules.specs.Settings.{Held, setting}
 use Rattle.rules.specs.State.{State, pdoCounts, transferOf, reading}

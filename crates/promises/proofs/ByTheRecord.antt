@@ -2,8 +2,7 @@
 use mathlib.Core.Path.{_≡_, refl, ap, sym, _∙_}
 use mathlib.Core.Bool.{Bool, true, false, cond}
 use mathlib.Core.List.{List, [], _∷_}
-use Prim.Native.Nat.{ℕ, _*_}
-use lib.Dec.{eqb}
+use Prim.Native.Nat.{ℕ}
 use lib.ListN.{length}
 use Rattle.answers.specs.Answers.{answering}
 use Rattle.device.proofs.Acted.{record-beside}
@@ -11,7 +10,6 @@ use Rattle.device.proofs.Beside.{Beside, tick-beside, sync-beside, reading-besi
 use Rattle.device.proofs.Named.{does, named}
 use Rattle.device.proofs.Views.{outcome-alike}
 use Rattle.device.specs.declared.Device.{Device}
-use Rattle.device.specs.declared.Stepped.{Stepped}
 use Rattle.device.specs.Answers.{steppedOf}
 use Rattle.device.specs.Requested.{requested}
 use Rattle.device.specs.Seen.{seen, alone}

@@ -12,7 +12,7 @@ use Rattle.device.specs.Promise.{Answered, PoweredOn}
 use Rattle.rules.specs.declared.events.Event.{Event}
 use Rattle.rules.specs.declared.parts.Identity.{Identity}
 
--- `Device::power_on` and, for C, `basintilt_power_on`
+-- `power_on::power_on` and, for C, `basintilt_power_on`
 abbrev pub OnePowerOn : Type 0
 OnePowerOn = (node : ℕ) (identity : Identity) (j : List ℕ) (r s : Stepped) → PoweredOn node identity j r → PoweredOn node identity j s → r ≡ s
 
