@@ -9,6 +9,7 @@ import serial
 TOP = os.path.dirname(os.path.dirname(os.path.dirname(os.path.abspath(__file__))))
 BLOCK = 512
 BLOCKS = 128
+PAINT, PAINTED = b"\xA5", 16384
 
 
 class Board:
@@ -18,8 +19,12 @@ class Board:
 
     def __init__(self, program, journal):
         self.program, self.journal = program, journal
-        self.process = subprocess.Popen(
-            [f"{TOP}/board/firmware/run", journal, program, "-S", "-qmp", "stdio"], stdin=subprocess.PIPE, stdout=subprocess.PIPE, text=True)
+        with open(journal + ".paint", "wb") as file:
+            file.write(PAINTED * PAINT)
+        # Start and reset have the emulator paint the memory that the stack grows into.
+        paint = f"loader,file={file.name},addr={self.named('stack_top')[0] - PAINTED},force-raw=on"
+        self.process = subprocess.Popen([f"{TOP}/board/firmware/run", journal, program, "-S", "-qmp", "stdio", "-device", paint],
+                                        stdin=subprocess.PIPE, stdout=subprocess.PIPE, text=True)
         Board.started.append(self)
         self.ask("qmp_capabilities")
         lines = {line["label"]: line["filename"] for line in self.ask("query-chardev")}
@@ -45,7 +50,7 @@ class Board:
         self.ask("cont")
 
     def reset(self):
-        """The reset line: what memory holds is kept."""
+        """The reset line: what memory holds is kept, all but the stack, which is painted anew."""
         self.ask("system_reset")
 
     def cut(self):
@@ -55,21 +60,27 @@ class Board:
         self.process.stdin.close()
         self.process.stdout.close()
 
-    def symbol(self, name):
-        """Address and size of a function or variable of the program."""
+    def named(self, name):
+        """The numbers that the program has for a name: of a function or variable its address and size, of a word of the linker's script its value."""
         names = subprocess.run(["arm-none-eabi-nm", "-S", self.program], check=True, capture_output=True, text=True).stdout.split("\n")
-        at, size = next(line.split()[:2] for line in names if line.endswith(" " + name))
-        return int(at, 16) & ~1, int(size, 16)
+        return [int(number, 16) for number in next(line for line in names if line.endswith(" " + name)).split()[:-2]]
 
-    def record(self):
-        """The bytes of the sensor's record."""
-        at, size = self.symbol("device")
-        file = self.journal + ".record"
+    def memory(self, at, size):
+        """Bytes of its memory."""
+        file = self.journal + ".memory"
         self.ask("stop")
         self.ask("pmemsave", val=at, size=size, filename=file)
         self.ask("cont")
         with open(file, "rb") as saved:
             return saved.read()
+
+    def record(self):
+        """The bytes of the sensor's record."""
+        return self.memory(*self.named("device"))
+
+    def stack(self):
+        """The bytes of stack that were used since start or reset: up to the deepest that is not as it was painted."""
+        return len(self.memory(self.named("stack_top")[0] - PAINTED, PAINTED).lstrip(PAINT))
 
     def blocks(self):
         """The bytes of the journal's memory, as its file has them now."""
@@ -107,11 +118,11 @@ class Debugger:
 
     def halt_at(self, function):
         """Has the board halt where it next enters the function."""
-        self.do(f"Z1,{self.board.symbol(function)[0]:x},2")
+        self.do(f"Z1,{self.board.named(function)[0] & ~1:x},2")
 
     def write(self, variable, offset, value, size):
         """Writes into a variable of the program."""
-        self.do(f"M{self.board.symbol(variable)[0] + offset:x},{size:x}:{value.to_bytes(size, 'little').hex()}")
+        self.do(f"M{self.board.named(variable)[0] + offset:x},{size:x}:{value.to_bytes(size, 'little').hex()}")
 
     def go(self):
         self.tell("c")

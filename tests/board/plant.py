@@ -12,7 +12,7 @@ from emulator import BLOCK, BLOCKS, Board, Debugger
 SAVE, LOAD = 0x65766173, 0x64616F6C
 folder = sys.argv[1]
 firmware, journal = f"{folder}/firmware.elf", f"{folder}/journal"
-checks, failures = 0, []
+checks, failures, depths = 0, [], []
 
 
 def check(what, got, wanted):
@@ -52,6 +52,13 @@ def saved(board, place, channel, kind):
     """The reply is here, so the block is: looked at before anything else."""
     block = board.blocks()[(place - 1) * BLOCK:place * BLOCK]
     check(f"block {place} behind its reply", good(block, place, channel, kind), True)
+
+
+def stack(board):
+    """The stack of the whole firmware is not deeper than the linker's script says."""
+    used, room = board.stack(), board.named("stack_bytes")[0]
+    check(f"{used} bytes of stack, where {room} are enough", used <= room, True)
+    depths.append(used)
 
 
 def sample(board, desk):
@@ -319,11 +326,13 @@ def full(board, desk):
         check("a load too many", desk.write(channel, 0x1011, 1, LOAD, 4), "abort 05040005")
     check("filled blocks", desk.read(1, 0x2100), BLOCKS)
     check("the full journal", board.blocks() == before, True)
+    stack(board)
     desk.leave()
     board.cut()
     board, desk = powered()
     check("a full journal at start", desk.read(2, 0x2100), BLOCKS)
     check("a save on it", desk.write(2, 0x1010, 1, SAVE, 4), "abort 05040005")
+    stack(board)
     desk.leave()
     board.cut()
 
@@ -340,6 +349,7 @@ def spoiled():
     check("EMCY of the journal behind 81h", desk.wait(0x081), "00FF810000000000")
     check("the blocks before", desk.read(1, 0x2100), 100)
     check("a save on it", desk.write(1, 0x1010, 1, SAVE, 4), "abort 06060000")
+    stack(board)
     desk.leave()
     board.cut()
 
@@ -371,6 +381,7 @@ def day():
     errors(desk)
     resets(desk)
     tell(f"a plant desk by python-can: the paper's sample, angles, zero, saves, SYNC, heartbeat every {1000 * period:.1f} ms, errors, resets")
+    stack(board)
     board, desk = restarts(board, desk)
     board, desk = moments(board, desk)
     tell("a reset, a power cut behind a reply, before the save's event and before its reply: the journal has what it should")
@@ -383,6 +394,7 @@ def day():
     full(board, desk)
     spoiled()
     tell("a full journal and a spoiled one: saves refused, nothing changed")
+    tell(f"the firmware's stack: {max(depths)} bytes at most")
     for name, said in ("part_of_a_block", b"!1\r!3\r"), ("too_many_blocks", b"!1\r!3\r"), ("wrong_node", b"!4\r!3\r"):
         refused(f"{folder}/{name}.elf", said)
     tell("a journal of a wrong size says !1 !3 at start, a wrong node !4 !3")
