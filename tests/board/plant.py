@@ -129,7 +129,8 @@ def heartbeat(desk):
 def stamps(board, desk):
     """Time stamps are the board's own: heartbeats stand exactly 25 ms apart, over the end of a minute too."""
     debugger = Debugger(board)
-    debugger.write("millisecond", 0, 59400, 2)
+    # 1.5 s before the minute's end: time to open the channel on a busy machine too.
+    debugger.write("millisecond", 0, 58500, 2)
     debugger.go()
     desk.line("C")
     time.sleep(0.2)
@@ -140,10 +141,10 @@ def stamps(board, desk):
     desk.line("O")
     desk.port.timeout = 8
     times = []
-    while len(times) < 20:
+    while len(times) < 20 or (min(times) == times[0] and len(times) < 100):
         found = re.fullmatch(rb".*t701105([0-9A-F]{4})\r", desk.port.read_until(b"\r"), re.DOTALL)
         times += [int(found[1], 16)] if found else []
-    check("20 stamps", {(later - earlier) % 60000 for earlier, later in zip(times, times[1:])}, {25})
+    check("the stamps", {(later - earlier) % 60000 for earlier, later in zip(times, times[1:])}, {25})
     check("a minute's end", (max(times) < 60000, min(times) < times[0]), (True, True))
     desk.line("C")
     desk.line("Z0")
@@ -371,6 +372,9 @@ def refused(program, said):
 
 def day():
     """All of it, one behind the other."""
+    for name, said in ("part_of_a_block", b"!1\r!3\r"), ("too_many_blocks", b"!1\r!3\r"), ("wrong_node", b"!4\r!3\r"):
+        refused(f"{folder}/{name}.elf", said)
+    tell("a journal of a wrong size says !1 !3 at start, a wrong node !4 !3")
     board, desk = powered()
     sample(board, desk)
     angles(desk)
@@ -395,9 +399,6 @@ def day():
     spoiled()
     tell("a full journal and a spoiled one: saves refused, nothing changed")
     tell(f"the firmware's stack: {max(depths)} bytes at most")
-    for name, said in ("part_of_a_block", b"!1\r!3\r"), ("too_many_blocks", b"!1\r!3\r"), ("wrong_node", b"!4\r!3\r"):
-        refused(f"{folder}/{name}.elf", said)
-    tell("a journal of a wrong size says !1 !3 at start, a wrong node !4 !3")
 
 
 def main():
