@@ -9,8 +9,8 @@ enum { STACK_BYTES = 32768, PAINT = 0xA5, BLOCKS_TRIED = 3, BLOCKS_PROBED = 4096
 /* What docs/INTEGRATION.md says is enough. */
 enum { ENOUGH_FOR_POWER_ON = 2048, ENOUGH_FOR_EVENT = 2048, ENOUGH_FOR_QUERY = 256 };
 
-/* crates/stack_probe: the filled blocks, and 65,536 more where the journal is spoiled. Its length has 64 bits on a 32-bit machine too. */
-uint32_t stack_probe(const uint8_t *journal, uint64_t journal_length);
+/* crates/stack_probe: the filled blocks, and 65,536 more where the journal is spoiled. */
+uint32_t stack_probe(const uint8_t *journal, size_t journal_length);
 
 static uint8_t stack[STACK_BYTES] __attribute__((aligned(16)));
 static uint8_t journal[BLOCKS_PROBED * BASINTILT_BLOCK_BYTES];

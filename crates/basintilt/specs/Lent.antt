@@ -12,7 +12,7 @@ use Rattle.basintilt.specs.declared.Happening.{Happening}
 use Rattle.basintilt.specs.Happenings.{eventOf, lengthIn}
 
 -- what the rules say of a happening on a record and a lent journal
-abbrev happened : Device → List ℕ → Happening → Result
+abbrev pub happened : Device → List ℕ → Happening → Result
 happened d j h = eventOn d j (eventOf h) (h .bytes) (lengthIn h)
 
 -- the new record with the answer, and the journal then

@@ -1,3 +1,4 @@
 pub mod Happenings
 pub mod Lent
 pub mod Told
+pub mod Acts

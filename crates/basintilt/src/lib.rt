@@ -1,4 +1,7 @@
 // What the recorder's C firmware calls: power-on, one event on its lent device record, and the block query.
+mod lent;
+
+use acts::Act;
 use answers::Answer;
 use device::Device;
 use device::Stepped;
@@ -11,8 +14,9 @@ ghost use mathlib.Core.Path.{_≡_};
 ghost use mathlib.Core.Bool.{cond};
 ghost use lib.Dec.{leb};
 ghost use Rattle.device.specs.Promise.{PoweredOn};
+ghost use Rattle.basintilt.specs.Acts.{Decided};
 ghost use Rattle.basintilt.specs.Happenings.{eventOf};
-ghost use Rattle.basintilt.specs.Lent.{stepOf, journalOf, Lent};
+ghost use Rattle.basintilt.specs.Lent.{Lent};
 ghost use Rattle.basintilt.specs.Told.{Told};
 
 // An event in numbers. Kind 0 is a frame, 1 a remote frame (identifier, length and bytes), 2 a tick (ms), 3 and 4 a reading of
@@ -57,14 +61,18 @@ fn bytes_in(kind: u8, length: u8) -> u8
     if kind <= 4 { length } else { 0 }
 }
 
-// The step by value.
-fn step(device: Device, journal: &mut [u8], happening: Happening) -> Stepped
-    ensures { λ r. ⌜ (r ≡ stepOf device (now (journal .entry)) happening) × (now (journal .exit) ≡ journalOf device (now (journal .entry)) happening) ⌝ }
+// What a happening comes to. The record is looked at first, so that nothing else is in the way of its tests.
+fn decided(device: Device, journal_length: usize, happening: Happening) -> Act
+    ensures { λ r. ⌜ Decided device «journal_length» happening r ⌝ }
 {
-    let event = event_of(happening);
     let bytes = happening.bytes;
+    let refusal = device.refusal(journal_length);
+    if refusal != 0 {
+        return Act::stay(refusal, bytes);
+    }
+    let event = event_of(happening);
     let length = bytes_in(happening.kind, happening.length);
-    device.event(journal, event, bytes, length)
+    acts::of(event, bytes, length, device.node)
 }
 
 // The recorder lends its one device record and its journal, and finds them updated.
@@ -77,10 +85,8 @@ pub extern "C" fn basintilt_event(
     ensures { λ r. ⌜ Lent (now (device .entry)) (now (journal .entry)) happening r (now (device .exit)) (now (journal .exit)) ⌝ }
 {
     let was = *device;
-    let r = step(was, journal, happening);
-    let next = r.device;
-    *device = next;
-    r.answer
+    let act = decided(was, journal.len(), happening);
+    lent::performed(device, journal, act)
 }
 
 // The record comes back by value; the journal is only read.

@@ -1,13 +1,10 @@
 -- The journal beside the record: what an event does to the record does not depend on it, and none but a save or a load touches it.
 use mathlib.Core.Path.{_≡_, refl, sym, _∙_}
-use mathlib.Core.Bool.{Bool, true, false, cond}
 use mathlib.Core.List.{List}
 use Prim.Native.Nat.{ℕ}
-use lib.Dec.{eqb}
 use lib.IntN.{ℤ}
 use Rattle.rules.specs.declared.objects.Axis.{Axis}
 use Rattle.rules.specs.declared.objects.Axis.the-variants.{X, Y}
-use Rattle.rules.specs.Network.{start, onNetworkCommand}
 use Rattle.rules.specs.Ranges.{inRange}
 use Rattle.rules.specs.Readings.{onReading}
 use Rattle.rules.specs.Results.{Result}
@@ -26,10 +23,6 @@ pub record Beside (j : List ℕ) (r s : Result) : Type 0 where
 pub moved : {j : List ℕ} {r s : Result} {t : Stepped} → Beside j r s → t ≡ steppedOf s → (t ≡ steppedOf r) × (j ≡ r .state .journal)
 moved b p = (p ∙ sym (b .same), sym (b .kept))
 
-pub either : (j : List ℕ) (t : Bool) {a b c d : Result} → Beside j a b → Beside j c d → Beside j (cond t a c) (cond t b d)
-either j true x y = x
-either j false x y = y
-
 module _ (d : Device) (j : List ℕ) where
   pub range-beside : inRange (seen d j) ≡ inRange (alone d)
   unfolding inRange
@@ -47,12 +40,3 @@ module _ (d : Device) (j : List ℕ) where
   unfolding onReading
   reading-beside X m = record { same = refl; kept = refl }
   reading-beside Y m = record { same = refl; kept = refl }
-
-  pub command-beside : (command : ℕ) → Beside j (onNetworkCommand command (seen d j)) (onNetworkCommand command (alone d))
-  unfolding onNetworkCommand start
-  command-beside command =
-      either j (eqb command 0x01) (record { same = refl; kept = refl })
-      (either j (eqb command 0x02) (record { same = refl; kept = refl })
-      (either j (eqb command 0x80) (record { same = refl; kept = refl })
-      (either j (eqb command 0x81) (record { same = refl; kept = refl })
-      (either j (eqb command 0x82) (record { same = refl; kept = refl }) (record { same = refl; kept = refl })))))

@@ -1,5 +1,6 @@
 pub mod Acted
+pub mod Asked
 pub mod Beside
-pub mod Named
 pub mod Refused
+pub mod Steps
 pub mod Views

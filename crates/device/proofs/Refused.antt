@@ -1,5 +1,5 @@
 -- What the number of the refusal says of an event: refused with it, or looked at and done.
-use mathlib.Core.Path.{_≡_, refl, ap, _∙_, subst⁻¹}
+use mathlib.Core.Path.{_≡_, refl, ap, sym, _∙_, subst⁻¹}
 use mathlib.Core.Bool.{Bool, true, false, cond}
 use mathlib.Core.List.{List}
 use borrow.Author.Tests.{eqb-true}
@@ -7,6 +7,9 @@ use native.Mathlib.Omega.{arith}
 use Prim.Native.Nat.{ℕ, _*_}
 use lib.Dec.{eqb}
 use lib.ListN.{length as lengthOf}
+use Rattle.acts.proofs.Done.{done-as}
+use Rattle.acts.specs.declared.Act.{Act}
+use Rattle.acts.specs.Acts.{actOf, does}
 use Rattle.rules.specs.declared.events.Event.{Event}
 use Rattle.rules.specs.Events.{onEvent, event}
 use Rattle.rules.specs.Ranges.{inRange}
@@ -42,21 +45,24 @@ module _ (d : Device) (j : List ℕ) (n : ℕ) (p : n ≡ refusalOf (lengthOf j)
   pub not-refused : n ≡ 0 → Ranged d × (lengthOf j ≡ 512 * d .saves .blocks)
   not-refused q = let t = passed q in (t .0, eqb-true (lengthOf j) (512 * d .saves .blocks) (t .1))
 
-  module _ (e : Event) (bytes : List ℕ) (length : ℕ) where
-    refused-with : (n ≡ 0 → ⊥) → event e bytes length (seen d j) ≡ refused n (seen d j)
+  module _ (e : Event) (bytes : List ℕ) (size : ℕ) where
+    pub refused-with : (n ≡ 0 → ⊥) → event e bytes size (seen d j) ≡ refused n (seen d j)
     unfolding event
-    refused-with q = rw (range-beside d j) (by-number (inRange (alone d)) (eqb (lengthOf j) (512 * d .saves .blocks)) n (onEvent e bytes length (seen d j)) (seen d j) p q)
+    refused-with q = rw (range-beside d j) (by-number (inRange (alone d)) (eqb (lengthOf j) (512 * d .saves .blocks)) n (onEvent e bytes size (seen d j)) (seen d j) p q)
 
-    looked-at : n ≡ 0 → event e bytes length (seen d j) ≡ onEvent e bytes length (seen d j)
+    looked-at : n ≡ 0 → event e bytes size (seen d j) ≡ onEvent e bytes size (seen d j)
     unfolding event
     looked-at q = let t = passed q in rw (range-beside d j, t .0, t .1)
 
-    -- refused, and the record stays
-    pub turned-away : (t : Stepped) → (n ≡ 0 → ⊥) → t ≡ steppedOf (refused n (alone d)) → Answered d j e bytes length t j
+    -- looked at, and done as what it comes to does
+    pub comes-to : (a : Act) → n ≡ 0 → a ≡ actOf e bytes size (d .node) → event e bytes size (seen d j) ≡ does a (seen d j)
+    comes-to a q k = looked-at q ∙ done-as bytes size (seen d j) e ∙ ap (λ (b : Act). does b (seen d j)) (sym k)
+
+    -- so a step and a journal that are those of a refusal, or of the act, are the event's
+    pub turned-away : (t : Stepped) → (n ≡ 0 → ⊥) → t ≡ steppedOf (refused n (alone d)) → Answered d j e bytes size t j
     turned-away t q s = like t j (refused-with q) (s, refl)
 
-    -- looked at, and done as the event's kind says
-    pub taken-as : (kind : Event) (t : Stepped) (j′ : List ℕ) → n ≡ 0 → e ≡ kind
-        → (t ≡ steppedOf (onEvent kind bytes length (seen d j))) × (j′ ≡ onEvent kind bytes length (seen d j) .state .journal)
-        → Answered d j e bytes length t j′
-    taken-as kind t j′ q k s = like t j′ (looked-at q ∙ ap (λ (f : Event). onEvent f bytes length (seen d j)) k) s
+    pub taken : (a : Act) (t : Stepped) (j′ : List ℕ) → n ≡ 0 → a ≡ actOf e bytes size (d .node)
+        → (t ≡ steppedOf (does a (seen d j))) × (j′ ≡ does a (seen d j) .state .journal)
+        → Answered d j e bytes size t j′
+    taken a t j′ q k s = like t j′ (comes-to a q k) s

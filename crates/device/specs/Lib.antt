@@ -1,6 +1,6 @@
 pub mod Seen
 pub mod Answers
-pub mod Changed
 pub mod Promise
-pub mod Requested
+pub mod Ready
+pub mod Replied
 pub mod Views

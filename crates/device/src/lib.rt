@@ -5,6 +5,7 @@ mod range;
 mod serving;
 mod time;
 
+use acts::Act;
 use answers::Answer;
 use rules::errors::ErrorList;
 use rules::parts::Identity;
@@ -14,8 +15,10 @@ use rules::parts::Saves;
 use rules::parts::Transfer;
 use rules::settings::Settings;
 ghost use mathlib.Core.Path.{_≡_};
+ghost use Rattle.acts.specs.Acts.{does};
 ghost use Rattle.rules.specs.Results.{refused};
 ghost use Rattle.device.specs.Answers.{steppedOf};
+ghost use Rattle.device.specs.Ready.{Ready};
 ghost use Rattle.device.specs.Seen.{alone};
 
 // The device record: plain numbers, so that any record can be given, and refused.
@@ -43,12 +46,19 @@ pub struct Stepped {
 
 impl Device {
     // Nothing is sent, and the record stays.
-    fn stay(self, refusal: u16) -> Stepped
+    pub(crate) fn quiet(self, refusal: u16) -> Stepped
         ensures { λ r. ⌜ r ≡ steppedOf (refused refusal (alone self)) ⌝ }
     {
         Stepped {
             device: self,
             answer: Answer::silent(refusal),
         }
+    }
+
+    pub fn stay(self, act: Act) -> Stepped
+        requires { ⌜ Ready 0 self act ⌝ }
+        ensures { λ r. ⌜ r ≡ steppedOf (does act (alone self)) ⌝ }
+    {
+        self.quiet(act.refusal)
     }
 }

@@ -1,6 +1,7 @@
 // NMT commands and resets.
 use crate::Device;
 use crate::Stepped;
+use acts::Act;
 use answers::Answer;
 use rules::errors::ErrorList;
 use rules::parts::Identity;
@@ -8,14 +9,13 @@ use rules::parts::Saves;
 use rules::states;
 ghost use mathlib.Core.Path.{_≡_};
 ghost use mathlib.Core.Bool.{cond};
-ghost use mathlib.Core.List.{[], _∷_};
+ghost use mathlib.Core.List.{[]};
 ghost use lib.Dec.{eqb};
+ghost use Rattle.acts.specs.Acts.{does};
 ghost use Rattle.rules.specs.Errors.{noErrors, entered};
-ghost use Rattle.rules.specs.Frames.{bootUpFrame};
 ghost use Rattle.rules.specs.Network;
-ghost use Rattle.rules.specs.Network.{communicating, onNetworkCommand};
-ghost use Rattle.rules.specs.Results.{accepted};
 ghost use Rattle.device.specs.Answers.{steppedOf};
+ghost use Rattle.device.specs.Ready.{Ready};
 ghost use Rattle.device.specs.Seen.{alone};
 
 const SPOILED: u16 = 0xFF00;
@@ -56,9 +56,37 @@ impl Device {
         }
     }
 
+    // 01h. Start zeroes the PDO's counts.
+    pub fn operate(mut self, act: Act) -> Stepped
+        requires { ⌜ Ready 4 self act ⌝ }
+        ensures { λ r. ⌜ r ≡ steppedOf (does act (alone self)) ⌝ }
+    {
+        self.network = states::OPERATIONAL;
+        self.pdo = timers::no_counts();
+        self.quiet(0)
+    }
+
+    // 02h and 80h.
+    pub fn enter(mut self, act: Act) -> Stepped
+        requires { ⌜ Ready 5 self act ⌝ }
+        ensures { λ r. ⌜ r ≡ steppedOf (does act (alone self)) ⌝ }
+    {
+        self.network = act.network;
+        self.quiet(0)
+    }
+
+    // 81h.
+    pub fn reset(self, act: Act) -> Stepped
+        requires { ⌜ Ready 6 self act ⌝ }
+        ensures { λ r. ⌜ r ≡ steppedOf (does act (alone self)) ⌝ }
+    {
+        Device::start(self.node, self.identity, self.saves)
+    }
+
     // 82h: 1017 and 1800 from the stored settings.
-    fn communicate(mut self) -> Stepped
-        ensures { λ r. ⌜ r ≡ steppedOf (accepted (communicating (alone self)) (bootUpFrame (self .node) ∷ [])) ⌝ }
+    pub fn communicate(mut self, act: Act) -> Stepped
+        requires { ⌜ Ready 7 self act ⌝ }
+        ensures { λ r. ⌜ r ≡ steppedOf (does act (alone self)) ⌝ }
     {
         let pdo = self.saves.stored.pdo;
         let mut running = self.running;
@@ -73,29 +101,6 @@ impl Device {
         Stepped {
             device: self,
             answer: Answer::one(frames::boot_up(self.node)),
-        }
-    }
-
-    pub(crate) fn command(mut self, command: u8) -> Stepped
-        ensures { λ r. ⌜ r ≡ steppedOf (onNetworkCommand command (alone self)) ⌝ }
-    {
-        match command {
-            0x01 => {
-                self.network = states::OPERATIONAL;
-                self.pdo = timers::no_counts();
-                self.stay(0)
-            }
-            0x02 => {
-                self.network = states::STOPPED;
-                self.stay(0)
-            }
-            0x80 => {
-                self.network = states::PRE_OPERATIONAL;
-                self.stay(0)
-            }
-            0x81 => Device::start(self.node, self.identity, self.saves),
-            0x82 => self.communicate(),
-            _ => self.stay(0),
         }
     }
 }

@@ -9,7 +9,7 @@ const OUT_OF_RANGE: u16 = 3;
 
 impl Device {
     // The number of the refusal that record and length bring; 0 where it is none. The parts' order is the cheapest of those that were counted.
-    pub(crate) fn refusal(self, length: usize) -> u16
+    pub fn refusal(self, length: usize) -> u16
         ensures { λ r. ⌜ r ≡ refusalOf length (alone self) ⌝ }
     {
         if !ranges::saves_ok(self.saves) {

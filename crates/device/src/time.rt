@@ -1,19 +1,20 @@
 // Ticks, SYNCs and readings.
 use crate::Device;
 use crate::Stepped;
-use rules::objects::Axis;
+use acts::Act;
 use rules::objects::PdoNumber;
 ghost use mathlib.Core.Path.{_≡_};
-ghost use Rattle.rules.specs.Readings.{onReading};
-ghost use Rattle.rules.specs.Time.{onTick, onSync};
+ghost use Rattle.acts.specs.Acts.{does};
 ghost use Rattle.device.specs.Answers.{steppedOf};
-ghost use Rattle.device.specs.Seen.{alone, Ranged};
+ghost use Rattle.device.specs.Ready.{Ready};
+ghost use Rattle.device.specs.Seen.{alone};
 
 impl Device {
-    pub(crate) fn tick(mut self, ms: u16) -> Stepped
-        requires { ⌜ Ranged self ⌝ }
-        ensures { λ r. ⌜ r ≡ steppedOf (onTick ms (alone self)) ⌝ }
+    pub fn tick(mut self, act: Act) -> Stepped
+        requires { ⌜ Ready 1 self act ⌝ }
+        ensures { λ r. ⌜ r ≡ steppedOf (does act (alone self)) ⌝ }
     {
+        let ms = act.ms;
         let period = self.running.heartbeat;
         let beats = timers::reaches(true, period, self.heartbeat, ms);
         let sends = timers::tick_sends(self.network, self.running.pdo, self.pdo, ms);
@@ -35,9 +36,9 @@ impl Device {
         }
     }
 
-    pub(crate) fn sync(mut self) -> Stepped
-        requires { ⌜ Ranged self ⌝ }
-        ensures { λ r. ⌜ r ≡ steppedOf (onSync (alone self)) ⌝ }
+    pub fn sync(mut self, act: Act) -> Stepped
+        requires { ⌜ Ready 2 self act ⌝ }
+        ensures { λ r. ⌜ r ≡ steppedOf (does act (alone self)) ⌝ }
     {
         let sends = timers::sync_sends(self.network, self.running.pdo, self.pdo);
         let answer = answers::timed(
@@ -57,9 +58,12 @@ impl Device {
         }
     }
 
-    pub(crate) fn measure(mut self, axis: Axis, m: i32) -> Stepped
-        ensures { λ r. ⌜ r ≡ steppedOf (onReading axis m (alone self)) ⌝ }
+    pub fn measure(mut self, act: Act) -> Stepped
+        requires { ⌜ Ready 3 self act ⌝ }
+        ensures { λ r. ⌜ r ≡ steppedOf (does act (alone self)) ⌝ }
     {
+        let axis = act.axis;
+        let m = act.m;
         let spoiled = self.saves.spoiled;
         let before = frames::register(spoiled, self.x.state, self.y.state);
         let fault = readings::fails(m, readings::of(axis, self.x, self.y));

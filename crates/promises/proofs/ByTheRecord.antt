@@ -1,31 +1,36 @@
 -- An event goes by the record: each kind moves it as it would beside any other journal of that length.
 use mathlib.Core.Path.{_≡_, refl, ap, sym, _∙_}
 use mathlib.Core.Bool.{Bool, true, false, cond}
-use mathlib.Core.List.{List, [], _∷_}
+use mathlib.Core.List.{List}
 use Prim.Native.Nat.{ℕ}
+use lib.Dec.{eqb}
 use lib.ListN.{length}
-use Rattle.answers.specs.Answers.{answering}
-use Rattle.device.proofs.Acted.{record-beside}
-use Rattle.device.proofs.Beside.{Beside, tick-beside, sync-beside, reading-beside, command-beside, range-beside}
-use Rattle.device.proofs.Named.{does, named}
+use Rattle.acts.proofs.Done.{done-as}
+use Rattle.acts.specs.declared.Act.{Act}
+use Rattle.acts.specs.Acts.{requested, actOf, does}
+use Rattle.device.proofs.Acted.{acted-alike}
+use Rattle.device.proofs.Beside.{Beside, tick-beside, sync-beside, reading-beside, range-beside}
 use Rattle.device.proofs.Views.{outcome-alike}
 use Rattle.device.specs.declared.Device.{Device}
 use Rattle.device.specs.Answers.{steppedOf}
-use Rattle.device.specs.Requested.{requested}
 use Rattle.device.specs.Seen.{seen, alone}
-use Rattle.requests.specs.declared.Rule.{Rule}
-use Rattle.requests.specs.declared.Rule.the-variants.{Wrong, Nothing, Network, Sync, Request}
-use Rattle.requests.specs.Frames.{ruleOf}
 use Rattle.rules.specs.declared.events.Event.{Event}
-use Rattle.rules.specs.declared.events.Event.the-variants.{Received, Tick, Measured}
 use Rattle.rules.specs.declared.objects.Channel.{Channel}
 use Rattle.rules.specs.declared.requests.Outcome.{Outcome}
 use Rattle.rules.specs.Events.{answered, onEvent, event, journalFits}
-use Rattle.rules.specs.Frames.{replyFrame}
+use Rattle.rules.specs.Network.{start}
 use Rattle.rules.specs.Ranges.{inRange}
 use Rattle.rules.specs.Results.{Result, refused}
 use Rattle.rules.specs.Service.{outcome}
 use Rattle.promises.specs.ByTheRecord.{ByTheRecord}
+
+-- two results that move the record alike, with the same answer
+record Alike (r s : Result) : Type 0 where
+  moves : steppedOf r ≡ steppedOf s
+
+either : (t : Bool) {a b r s : Result} → Alike a b → Alike r s → Alike (cond t a r) (cond t b s)
+either true x y = x
+either false x y = y
 
 module _ (d : Device) (j k : List ℕ) where
   -- what moves the record beside either journal as it does alone
@@ -34,9 +39,7 @@ module _ (d : Device) (j k : List ℕ) where
 
   -- a request: its outcome does not go by the journal, nor does what the outcome makes of the record
   acted : (c : Channel) (o : Outcome) (l : List ℕ) → steppedOf (answered c o (seen d l)) ≡ steppedOf (answered c o (alone d))
-  acted c o l =
-      ap (λ (held : Device). record { device = held; answer = answering 0 (cond (o .replies) (replyFrame c (d .node) (o .bytes) ∷ []) []) })
-      (record-beside c (o .replies) (o .bytes) (o .transfer) d l (o .change))
+  acted c o l = acted-alike 0 c (o .replies) (o .bytes) (o .transfer) d l (o .change)
 
   requested-alike : (c : Channel) (bytes : List ℕ) → steppedOf (requested c bytes (seen d j)) ≡ steppedOf (requested c bytes (seen d k))
   requested-alike c bytes =
@@ -44,18 +47,22 @@ module _ (d : Device) (j k : List ℕ) where
       ∙ ap (λ (o : Outcome). steppedOf (answered c o (alone d))) (sym (outcome-alike c bytes d j) ∙ outcome-alike c bytes d k)
       ∙ sym (acted c (outcome c bytes (seen d k)) k)
 
-  rule-alike : (bytes : List ℕ) (size : ℕ) (rule : Rule) → steppedOf (does bytes size (seen d j) rule) ≡ steppedOf (does bytes size (seen d k) rule)
-  rule-alike bytes size Wrong = refl
-  rule-alike bytes size Nothing = refl
-  rule-alike bytes size (Network command) = same (command-beside d j command) (command-beside d k command)
-  rule-alike bytes size Sync = same (sync-beside d j) (sync-beside d k)
-  rule-alike bytes size (Request c) = requested-alike c bytes
+  -- by the step's number
+  act-alike : (a : Act) → Alike (does a (seen d j)) (does a (seen d k))
+  unfolding start
+  act-alike a =
+      either (eqb (a .step) 0) (record { moves = refl })
+      (either (eqb (a .step) 1) (record { moves = same (tick-beside d j (a .ms)) (tick-beside d k (a .ms)) })
+      (either (eqb (a .step) 2) (record { moves = same (sync-beside d j) (sync-beside d k) })
+      (either (eqb (a .step) 3) (record { moves = same (reading-beside d j (a .axis) (a .m)) (reading-beside d k (a .axis) (a .m)) })
+      (either (eqb (a .step) 4) (record { moves = refl })
+      (either (eqb (a .step) 5) (record { moves = refl })
+      (either (eqb (a .step) 6) (record { moves = refl })
+      (either (eqb (a .step) 7) (record { moves = refl })
+      (record { moves = requested-alike (a .channel) (a .bytes) }))))))))
 
   kind-alike : (e : Event) (bytes : List ℕ) (size : ℕ) → steppedOf (onEvent e bytes size (seen d j)) ≡ steppedOf (onEvent e bytes size (seen d k))
-  kind-alike (Received f) bytes size =
-      ap steppedOf (named bytes size (seen d j) f) ∙ rule-alike bytes size (ruleOf f bytes size (d .node)) ∙ sym (ap steppedOf (named bytes size (seen d k) f))
-  kind-alike (Tick ms) bytes size = same (tick-beside d j ms) (tick-beside d k ms)
-  kind-alike (Measured a m) bytes size = same (reading-beside d j a m) (reading-beside d k a m)
+  kind-alike e bytes size = ap steppedOf (done-as bytes size (seen d j) e) ∙ act-alike (actOf e bytes size (d .node)) .moves ∙ sym (ap steppedOf (done-as bytes size (seen d k) e))
 
   -- by the two refusals that come first
   by-tests : (ranged fits : Bool) (r s : Result) → steppedOf r ≡ steppedOf s

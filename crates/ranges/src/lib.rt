@@ -1,6 +1,7 @@
 // The ranges of the device record: what a record holds that is not refused with 3.
 ghost use mathlib.Core.Path.{_≡_};
-ghost use Rattle.rules.specs.Settings.{inTable};
+ghost use Rattle.rules.specs.declared.objects.Setting.the-variants.{Resolution};
+ghost use Rattle.rules.specs.Settings.{within, inTable};
 ghost use Rattle.rules.specs.Ranges;
 ghost use Rattle.rules.specs.Ranges.{nodeOk, networkOk, savesOk, codeOk, errorsOk, elapsedOk, syncsOk, countsOk, transferOk, transfersOk, axisOk};
 use rules::errors::ErrorList;
@@ -19,6 +20,16 @@ const LEAST_CODE: u16 = 0xFF00;
 
 const MOST_CODE: u16 = 0xFF02;
 
+// The factory's first: where it is the one, a Cortex-M4 saves a dozen instructions.
+fn resolution_ok(resolution: u16) -> bool
+    ensures { λ r. ⌜ r ≡ within Resolution resolution ⌝ }
+{
+    if resolution == 10 {
+        return true;
+    }
+    (resolution == 1) | (resolution == 100) | (resolution == 1000)
+}
+
 // What the width of a field leaves to be tested of its settings.
 pub fn in_table(s: Settings) -> bool
     ensures { λ r. ⌜ r ≡ inTable s ⌝ }
@@ -31,7 +42,7 @@ pub fn in_table(s: Settings) -> bool
         & (PdoSettings::LEAST_SYNCHRONOUS <= transmission)
         & ((transmission <= PdoSettings::MOST_SYNCHRONOUS)
             | (PdoSettings::LEAST_TIMED <= transmission))
-        & ((resolution == 1) | (resolution == 10) | (resolution == 100) | (resolution == 1000))
+        & resolution_ok(resolution)
         & (s.x.operating <= AxisSettings::MOST_OPERATING)
         & (s.y.operating <= AxisSettings::MOST_OPERATING)
 }

@@ -4,6 +4,7 @@ use mathlib.Core.Bool.{true, _&&_, _||_, and-true, and-assoc, and-or-distrib-lef
 use mathlib.Core.List.{List}
 use Prim.Native.Nat.{ℕ, _≤_}
 use native.Mathlib.Omega.{arith}
+use borrow.Author.Needs.{needs}
 use borrow.Author.Tests.{leb-true, le-leb}
 use denote.Laws.{Is}
 use denote.Struct.Declared.{field}
@@ -31,9 +32,10 @@ types t h = simp (le-leb t 255 h, and-true, and-or-distrib-left, implied (leb 1 
 returns : tie.Need-returns
 unfolding inTable
 returns c =
-    let s = c .before .before .before .args .s in
+    let start = c .before .before .before .before in
+    let s = start .args .s in
     let f = c .struct-known3 .given in
-    let axes = c .before .before .before .good .0 .1 .1 .1 .1 .1 in
+    let axes = start .good .0 .1 .1 .1 .1 .1 in
     let x = sixteen (s .x) _ (axes .0) in
     let y = sixteen (s .y) _ (axes .1 .0) in
     simp (
@@ -41,6 +43,7 @@ returns c =
       and-true,
       le-leb (s .heartbeat) 65535 (omega arith),
       types (s .pdo .transmission) (omega arith),
+      c .before .before .resolution-ok .ensures,
       le-leb (s .pdo .timer) 65535 (omega arith),
       x .0,
       x .1,
@@ -51,4 +54,4 @@ returns c =
     )
 
 pub in-table-spec : {M : Type 1} → statement M
-in-table-spec = tie.close (tie.spec returns)
+in-table-spec = tie.close (tie.spec (λ c κs. search needs) returns)

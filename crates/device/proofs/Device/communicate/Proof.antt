@@ -11,4 +11,4 @@ communicate-spec =
     (λ c κs. search needs)
     (λ c κs. search needs)
     (λ c κs. search needs)
-    (λ c. simp (c .one .ensures, c .before .boot-up .ensures, c .before .before .no-transfers .ensures, c .before .before .before .no-counts .ensures)))
+    (λ c. simp (c .one .ensures, c .before .boot-up .ensures, c .before .before .no-transfers .ensures, c .before .before .before .no-counts .ensures, c .before .before .before .before .before .before .pre .0)))

@@ -1,10 +1,11 @@
 -- `Device::measure` meets its contract: the parts of the answer, put together by the axis.
 use borrow.Author.Needs.{needs}
+use mir.Syntax.{w32}
 use mathlib.Core.Path.{_≡_}
 use mathlib.Core.Bool.{Bool}
 use Prim.Native.Nat.{ℕ}
 use lib.IntN.{ℤ}
-use mir.Facts.{toZ-ofZ}
+use Rattle.laws.proofs.Signed.{ok}
 use Rattle.answers.specs.Answers.{answering}
 use Rattle.answers.specs.declared.Answer.{Answer}
 use Rattle.readings.specs.Alarm.{alarmOf}
@@ -71,8 +72,9 @@ measure-spec =
     (λ c.
     let listed = c .before .before .before .before in
     let fails = listed .before .before in
-    let start = fails .before .before .before in
-    let read = toZ-ofZ (start .fits .m) in
-    together _ _ _ _ _ _ _ _ _ _ _ _ (fails .before .of .ensures) (fails .before .before .register .ensures) (simp read at (fails .fails .ensures))
+    let told = fails .before .before .before in
+    let start = told .before in
+    let read = ok w32 (start .args .act .m) (told .struct-told .given .1 .1 .1 .1 .0 .1) in
+    rw (start .pre .0) (together _ _ _ _ _ _ _ _ _ _ _ _ (fails .before .of .ensures) (fails .before .before .register .ensures) (simp read at (fails .fails .ensures))
     (listed .before .fault-code .ensures) (listed .listed .ensures) (simp read at (c .before .before .before .x-after .ensures)) (simp read at (c .before .before .y-after .ensures))
-    (c .before .register2 .ensures) (c .alarm .ensures)))
+    (c .before .register2 .ensures) (c .alarm .ensures))))

@@ -1,0 +1,17 @@
+-- The step that a request's outcome asks for.
+use Prim.Native.Nat.{ℕ}
+use Rattle.rules.specs.declared.objects.Channel.{Channel}
+use Rattle.rules.specs.declared.requests.Change.{Change}
+use Rattle.rules.specs.declared.requests.Change.the-variants.{Keep, Put, Zero, Empty, Fill}
+use Rattle.rules.specs.declared.requests.Outcome.{Outcome}
+use Rattle.acts.specs.declared.asked.Asked.{Asked}
+
+abbrev pub stepFor : Change → ℕ
+stepFor Keep = 0
+stepFor (Put s v) = 1
+stepFor (Zero a preset offset) = 1
+stepFor Empty = 2
+stepFor (Fill c kind) = 3
+
+abbrev pub askedOf : Channel → Outcome → Asked
+askedOf c o = record { step = stepFor (o .change); channel = c; outcome = o }
