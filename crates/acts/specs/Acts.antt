@@ -24,6 +24,7 @@ use Rattle.rules.specs.State.{State, stopped, operational, preOperational, noCo
 use Rattle.rules.specs.Time.{onTick, onSync}
 use Rattle.acts.specs.declared.Act.{Act}
 
+-- the steps' numbers: 0 the record stays, refused by number or not; 1 a tick; 2 a SYNC; 3 a reading; 4 to 7 what 01h, what 02h and 80h, what 81h and what 82h ask for; 8 a request
 abbrev pub plain : ℕ → ℕ → ℕ → ℕ → List ℕ → Act
 plain step refusal ms network bytes = record { step = step; refusal = refusal; ms = ms; axis = X; m = pos 0; network = network; channel = One; bytes = bytes }
 

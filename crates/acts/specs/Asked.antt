@@ -6,6 +6,7 @@ use Rattle.rules.specs.declared.requests.Change.the-variants.{Keep, Put, Zero, 
 use Rattle.rules.specs.declared.requests.Outcome.{Outcome}
 use Rattle.acts.specs.declared.asked.Asked.{Asked}
 
+-- 0 a transfer alone is changed; 1 settings; 2 the error list; 3 the journal
 abbrev pub stepFor : Change → ℕ
 stepFor Keep = 0
 stepFor (Put s v) = 1
