@@ -1,4 +1,4 @@
--- What the number of a step says: what its act does, that the record is not refused, and that the first four leave the journal.
+-- What the number of a step says: what its act does, that the record is not refused, and that all steps but a request leave the journal.
 use mathlib.Core.Path.{_≡_, refl, sym, _∙_}
 use mathlib.Core.List.{List}
 use borrow.Author.Tests.{ne-eqb}

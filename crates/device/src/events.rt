@@ -13,7 +13,6 @@ ghost use Rattle.device.specs.Ready.{Requesting};
 ghost use Rattle.device.specs.Seen.{seen};
 
 impl Device {
-    // A request.
     fn request(self, journal: &mut [u8], act: Act) -> Stepped
         requires { ⌜ Requesting self (lengthOf (now journal)) act ⌝ }
         ensures { λ r. ⌜ (r ≡ steppedOf (does act (seen self (now (journal .entry)))))
