@@ -10,8 +10,11 @@ use Rattle.rules.specs.declared.events.Event.the-variants.{Received, Tic
 use Rattle.rules.specs.declared.events.FrameHead.{FrameHead}
 use Rattle.rules.specs.declared.objects.Channel.{Channel}
 use Rattle.rules.specs.declared.objects.Channel.the-variants.{One, Two}
+use Rattle.rules.specs.declared.requests.Caller.{Caller}
+use Rattle.rules.specs.declared.requests.Caller.the-variants.{Client, Master}
 use Rattle.rules.specs.declared.requests.Outcome.{Outcome}
-use Rattle.rules.specs.Frames.{requestsAt, replyFrame}
+use Rattle.rules.specs.Frames.{requestsAt, requestAt, replyFrame}
+use Rattle.rules.specs.Lss.{lssOutcome}
 use Rattle.rules.specs.Network.{onNetwork}
 use Rattle.rules.specs.Ranges.{inRange}
 use Rattle.rules.specs.Readings.{onReading}
@@ -20,12 +23,16 @@ use Rattle.rules.specs.Service.{outcome, stateAfter}
 use Rattle.rules.specs.State.{State}
 use Rattle.rules.specs.Time.{onTick, onSync}
 
--- a request on a channel: "requests of 8 bytes only"
-abbrev pub answered : Channel → Outcome → State → Result
+-- a request, on a channel or by LSS: "requests of 8 bytes only"
+abbrev pub outcomeFor : Caller → List ℕ → State → Outcome
+outcomeFor (Client c) request u = outcome c request u
+outcomeFor Master request u = lssOutcome request u
+
+abbrev pub answered : Caller → Outcome → State → Result
 answered c o u = accepted (stateAfter c o u) (cond (o .replies) (replyFrame c (u .node) (o .bytes) ∷ []) [])
 
-unfoldable pub onService : Channel → List ℕ → ℕ → State → Result
-onService c bytes size u = cond (eqb size 8) (answered c (outcome c bytes u) u) (ignored u)
+unfoldable pub onRequest : Caller → List ℕ → ℕ → State → Result
+onRequest c bytes size u = cond (eqb size 8) (answered c (outcomeFor c bytes u) u) (ignored u)
 
 -- "NMT: identifier 0"; "A SYNC (80h, length 0)"; "Remote frames and frames that no rule below names do nothing"
 unfoldable pub onFrame : FrameHead → List ℕ → ℕ → State → Result
@@ -33,9 +40,10 @@ onFrame f bytes size u =
     cond (f .remote) (ignored u)
     (cond (eqb (f .identifier) 0) (onNetwork bytes size u)
     (cond (eqb (f .identifier) 0x80 && eqb size 0) (onSync u)
-    (cond (eqb (f .identifier) (requestsAt One + u .node)) (onService One bytes size u)
-    (cond (eqb (f .identifier) (requestsAt Two + u .node)) (onService Two bytes size u)
-    (ignored u)))))
+    (cond (eqb (f .identifier) (requestAt (Client One) (u .node))) (onRequest (Client One) bytes size u)
+    (cond (eqb (f .identifier) (requestAt (Client Two) (u .node))) (onRequest (Client Two) bytes size u)
+    (cond (eqb (f .identifier) (requestAt Master (u .node))) (onRequest Master bytes size u)
+    (ignored u))))))
 
 -- "2 frame identifier over 7FFh or length over 8"
 abbrev pub frameOk : FrameHead → ℕ → Bool

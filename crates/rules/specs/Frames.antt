@@ -8,6 +8,8 @@ use Rattle.rules.specs.declared.objects.Channel.the-variants.{One, Two}
 use Rattle.rules.specs.declared.objects.PdoNumber.{PdoNumber}
 use Rattle.rules.specs.declared.objects.PdoNumber.the-variants.{First}
 use Rattle.rules.specs.declared.parts.Reading.{Reading}
+use Rattle.rules.specs.declared.requests.Caller.{Caller}
+use Rattle.rules.specs.declared.requests.Caller.the-variants.{Client, Master}
 use Rattle.rules.specs.declared.settings.Settings.{Settings}
 use Rattle.rules.specs.Numbers.{two, unsigned}
 use Rattle.rules.specs.Angle.{shown}
@@ -50,6 +52,14 @@ pdoFrame n node x y s =
     frame (pdoAt n + node)
     (two (unsigned 16 (shown x (s .resolution) (s .x))) ++ two (unsigned 16 (shown y (s .resolution) (s .y))))
 
--- a service reply on its channel
-abbrev pub replyFrame : Channel → ℕ → List ℕ → Frame
-replyFrame c node bytes = frame (repliesAt c + node) bytes
+-- a reply to its caller: on a service channel, or at 7E4h, whatever the node: "request 7E5h, reply 7E4h"
+abbrev pub requestAt : Caller → ℕ → ℕ
+requestAt (Client c) node = requestsAt c + node
+requestAt Master node = 0x7E5
+
+abbrev pub replyAt : Caller → ℕ → ℕ
+replyAt (Client c) node = repliesAt c + node
+replyAt Master node = 0x7E4
+
+abbrev pub replyFrame : Caller → ℕ → List ℕ → Frame
+replyFrame c node bytes = frame (replyAt c node) bytes

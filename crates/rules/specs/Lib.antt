@@ -1,4 +1,4 @@
--- Document 01 as definitions, its sections in their order.
+-- Documents 01 and 02 as definitions: the sections of 01 in their order, and what item 1 of 02 adds.
 --
 -- How to read them. Words in "…" are the paper's. A definition is a name with its type behind `:` (arguments, `→`, what it gives) and one line
 -- for each case, a case of an enum beginning with a capital; `abbrev` and `unfoldable` only tell the prover when to look inside.
@@ -31,6 +31,8 @@ pub mod Writes
 pub mod Reads
 pub mod Replies
 pub mod Service
+-- 02, item 1: node number by LSS
+pub mod Lss
 -- Network, heartbeat, PDO, errors
 pub mod Network
 pub mod Time

@@ -7,6 +7,7 @@ use lib.IntN.{ℤ, pos, natAbs}
 use lib.ListN.{length, getD}
 use Rattle.rules.specs.declared.errors.ErrorList.{ErrorList}
 use Rattle.rules.specs.declared.objects.PdoNumber.the-variants.{First}
+use Rattle.rules.specs.declared.parts.Lss.{Lss}
 use Rattle.rules.specs.declared.parts.PdoCounts.{PdoCounts}
 use Rattle.rules.specs.declared.parts.Reading.{Reading}
 use Rattle.rules.specs.declared.parts.Saves.{Saves}
@@ -15,19 +16,21 @@ use Rattle.rules.specs.declared.settings.PdoSettings.{PdoSettings}
 use Rattle.rules.specs.Block.{mostBlocks}
 use Rattle.rules.specs.Numbers.{between, betweenℤ, minus}
 use Rattle.rules.specs.Settings.{synchronous, every, inTable, pdoSettings}
-use Rattle.rules.specs.State.{State, stopped, operational, preOperational, afterSeven, none, faulty, pdoCounts}
+use Rattle.rules.specs.State.{State, mostNode, nodeOrNone, stopped, operational, preOperational, configuration, afterSeven, none, faulty, pdoCounts}
 
 -- "node 1 to 47"
 abbrev pub nodeOk : ℕ → Bool
-nodeOk node = between 1 47 node
+nodeOk node = between 1 mostNode node
 
 -- "NMT state 4, 5 or 127"
 abbrev pub networkOk : ℕ → Bool
 networkOk n = eqb n stopped || eqb n operational || eqb n preOperational
 
--- "blocks 1 to 128; filled blocks at most blocks", the spoiled mark 0 or 1, stored settings "within the object table"
+-- "blocks 1 to 128; filled blocks at most blocks", the spoiled mark 0 or 1, the stored number 0 to 47,
+-- stored settings "within the object table"
 abbrev pub savesOk : Saves → Bool
-savesOk s = between 1 mostBlocks (s .blocks) && leb (s .filled) (s .blocks) && leb (s .spoiled) 1 && inTable (s .stored)
+savesOk s =
+    between 1 mostBlocks (s .blocks) && leb (s .filled) (s .blocks) && leb (s .spoiled) 1 && nodeOrNone (s .node) && inTable (s .stored)
 
 -- "error list 0 to 5 codes long, each FF00h to FF02h, 0 past its end"
 abbrev pub codeOk : ℕ → ℕ → ℕ → Bool
@@ -64,9 +67,13 @@ inside m = betweenℤ (minus 180000) (pos 180000) m
 unfoldable pub axisOk : Reading → Bool
 axisOk x = leb (x .state) faulty && cond (eqb (x .state) none) (eqb (natAbs (x .m)) 0) (inside (x .m))
 
+-- LSS: mode 0 or 1, matches 0 to 3, the number set 0 to 47
+unfoldable pub lssOk : Lss → Bool
+lssOk l = leb (l .mode) configuration && leb (l .matches) 3 && nodeOrNone (l .node)
+
 -- identity is free
 unfoldable pub inRange : State → Bool
 inRange u =
     nodeOk (u .node) && networkOk (u .network) && savesOk (u .saves) && inTable (u .running) && errorsOk (u .errors)
     && elapsedOk (u .running .heartbeat) (u .heartbeat) && countsOk (pdoSettings First (u .running)) (pdoCounts First u)
-    && transfersOk (u .transfers) && axisOk (u .x) && axisOk (u .y)
+    && transfersOk (u .transfers) && axisOk (u .x) && axisOk (u .y) && lssOk (u .lss)

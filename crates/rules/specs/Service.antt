@@ -5,6 +5,8 @@ use Prim.Native.Nat.{ℕ, _+_}
 use lib.Dec.{eqb, ltb}
 use lib.IntN.{ℤ}
 use Rattle.rules.specs.declared.errors.ErrorList.{ErrorList}
+use Rattle.rules.specs.declared.journal.Origin.{Origin}
+use Rattle.rules.specs.declared.journal.Origin.the-variants.{Saved, Loaded, Stored}
 use Rattle.rules.specs.declared.objects.Axis.{Axis}
 use Rattle.rules.specs.declared.objects.Channel.{Channel}
 use Rattle.rules.specs.declared.objects.Channel.the-variants.{One, Two}
@@ -17,10 +19,13 @@ use Rattle.rules.specs.declared.objects.PdoSetting.{PdoSetting}
 use Rattle.rules.specs.declared.objects.PdoSetting.the-variants.{On, Transmission, Timer}
 use Rattle.rules.specs.declared.objects.Setting.{Setting}
 use Rattle.rules.specs.declared.objects.Setting.the-variants.{Heartbeat, Pdo, Resolution, Operating, Preset, Offset, Differential}
+use Rattle.rules.specs.declared.parts.Lss.{Lss}
 use Rattle.rules.specs.declared.parts.PdoCounts.{PdoCounts}
 use Rattle.rules.specs.declared.parts.Transfer.{Transfer}
+use Rattle.rules.specs.declared.requests.Caller.{Caller}
+use Rattle.rules.specs.declared.requests.Caller.the-variants.{Client, Master}
 use Rattle.rules.specs.declared.requests.Change.{Change}
-use Rattle.rules.specs.declared.requests.Change.the-variants.{Keep, Put, Zero, Empty, Fill}
+use Rattle.rules.specs.declared.requests.Change.the-variants.{Keep, Put, Zero, Empty, Configure, Fill}
 use Rattle.rules.specs.declared.requests.Command.{Command}
 use Rattle.rules.specs.declared.requests.Command.the-variants.{Write, Read, Segment, End, Unknown}
 use Rattle.rules.specs.declared.requests.Got.{Got}
@@ -30,7 +35,7 @@ use Rattle.rules.specs.declared.requests.Verdict.{Verdict}
 use Rattle.rules.specs.declared.requests.Verdict.the-variants.{Pass, Abort}
 use Rattle.rules.specs.declared.settings.PdoSettings.{PdoSettings}
 use Rattle.rules.specs.declared.settings.Settings.{Settings}
-use Rattle.rules.specs.Block.{block, channelNumber, loadKind}
+use Rattle.rules.specs.Block.{blockFrom}
 use Rattle.rules.specs.Errors.{noErrors}
 use Rattle.rules.specs.Journal.{putBehind}
 use Rattle.rules.specs.Numbers.{signed}
@@ -46,8 +51,11 @@ use Rattle.rules.specs.Writes.{change, writeCheck}
 abbrev pub replied : List ℕ → ℕ → Change → Outcome
 replied bytes stage e = record { replies = true; bytes = bytes; transfer = transferring stage; change = e }
 
+abbrev pub unanswered : Transfer → Change → Outcome
+unanswered t e = record { replies = false; bytes = 0 ∷ 0 ∷ 0 ∷ 0 ∷ 0 ∷ 0 ∷ 0 ∷ 0 ∷ []; transfer = t; change = e }
+
 abbrev pub silent : Transfer → Outcome
-silent t = record { replies = false; bytes = 0 ∷ 0 ∷ 0 ∷ 0 ∷ 0 ∷ 0 ∷ 0 ∷ 0 ∷ []; transfer = t; change = Keep }
+silent t = unanswered t Keep
 
 -- "An abort, sent or received, the last segment or any new initiate ends that channel's transfer"
 abbrev pub refuse : List ℕ → ℕ → Outcome
@@ -130,35 +138,48 @@ runningAfter Keep t = t
 runningAfter (Put s v) t = put s v t
 runningAfter (Zero a preset offset) t = zeroAt a preset offset t
 runningAfter Empty t = t
-runningAfter (Fill c kind) t = t
+runningAfter (Configure l) t = t
+runningAfter (Fill o) t = t
 
 abbrev pub onErrors : Change → ErrorList → ErrorList
 onErrors Keep x = x
 onErrors (Put s v) x = x
 onErrors (Zero a preset offset) x = x
 onErrors Empty x = noErrors
-onErrors (Fill c kind) x = x
+onErrors (Configure l) x = x
+onErrors (Fill o) x = x
 
--- what is stored: "A save fills the next block with running settings, a load with factory settings"
-abbrev pub storing : ℕ → Settings → Settings
-storing kind t = cond (eqb kind loadKind) factory t
+-- what is stored, of the running settings and those stored before: "A save fills the next block with running settings, a load with factory settings",
+-- "Store appends a block … with the stored settings"
+abbrev pub storing : Origin → Settings → Settings → Settings
+storing (Saved c) running stored = running
+storing (Loaded c) running stored = factory
+storing (Stored node) running stored = stored
+
+-- the stored number: "saves and loads carry it on unchanged"
+abbrev pub carrying : Origin → ℕ → ℕ
+carrying (Saved c) was = was
+carrying (Loaded c) was = was
+carrying (Stored node) was = node
 
 -- the settings that stand beside a change, factory where it stores none
-abbrev pub stores : Change → Settings → Settings
-stores Keep t = factory
-stores (Put s v) t = factory
-stores (Zero a preset offset) t = factory
-stores Empty t = factory
-stores (Fill c kind) t = storing kind t
+abbrev pub stores : Change → Settings → Settings → Settings
+stores Keep running stored = factory
+stores (Put s v) running stored = factory
+stores (Zero a preset offset) running stored = factory
+stores Empty running stored = factory
+stores (Configure l) running stored = factory
+stores (Fill o) running stored = storing o running stored
 
--- what only a save or a load changes
+-- what only a save, a load or a store changes
 pub record Kept : Type 0 where
   pub filled : ℕ
+  pub node : ℕ
   pub stored : Settings
   pub journal : List ℕ
 
 abbrev pub keptIn : State → Kept
-keptIn u = record { filled = u .saves .filled; stored = u .saves .stored; journal = u .journal }
+keptIn u = record { filled = u .saves .filled; node = u .saves .node; stored = u .saves .stored; journal = u .journal }
 
 -- the next block filled with settings; "Both update the stored settings"
 abbrev pub onKept : Change → Settings → Kept → Kept
@@ -166,10 +187,12 @@ onKept Keep t x = x
 onKept (Put s v) t x = x
 onKept (Zero a preset offset) t x = x
 onKept Empty t x = x
-onKept (Fill c kind) t x = record {
+onKept (Configure l) t x = x
+onKept (Fill o) t x = record {
   filled = x .filled + 1;
+  node = carrying o (x .node);
   stored = t;
-  journal = putBehind (x .filled) (block (x .filled + 1) (channelNumber c) kind t) (x .journal);
+  journal = putBehind (x .filled) (blockFrom o (x .filled + 1) t (carrying o (x .node))) (x .journal);
 }
 
 -- "A write to 1017 zeroes the heartbeat's" count
@@ -178,7 +201,8 @@ onHeartbeat Keep x = x
 onHeartbeat (Put s v) x = cond (sameSetting s Heartbeat) 0 x
 onHeartbeat (Zero a preset offset) x = x
 onHeartbeat Empty x = x
-onHeartbeat (Fill c kind) x = x
+onHeartbeat (Configure l) x = x
+onHeartbeat (Fill o) x = x
 
 -- "so does an accepted write to 1800": it zeroes the PDO's elapsed and SYNC counts
 abbrev pub onCounts : PdoNumber → Change → PdoCounts → PdoCounts
@@ -186,25 +210,37 @@ onCounts n Keep x = x
 onCounts n (Put s v) x = cond (ofPdo n s) noCounts x
 onCounts n (Zero a preset offset) x = x
 onCounts n Empty x = x
-onCounts n (Fill c kind) x = x
+onCounts n (Configure l) x = x
+onCounts n (Fill o) x = x
 
--- each channel has its own transfer
-abbrev pub onTransfer : Channel → Channel → Transfer → Transfer → Transfer
-onTransfer One One next x = next
-onTransfer One Two next x = x
-onTransfer Two One next x = x
-onTransfer Two Two next x = next
+-- what only LSS changes
+abbrev pub onLss : Change → Lss → Lss
+onLss Keep x = x
+onLss (Put s v) x = x
+onLss (Zero a preset offset) x = x
+onLss Empty x = x
+onLss (Configure l) x = l
+onLss (Fill o) x = x
 
--- the state after an outcome on a channel
-abbrev pub stateAfter : Channel → Outcome → State → State
+-- each channel has its own transfer, and LSS has none
+abbrev pub onTransfer : Caller → Channel → Transfer → Transfer → Transfer
+onTransfer (Client One) One next x = next
+onTransfer (Client One) Two next x = x
+onTransfer (Client Two) One next x = x
+onTransfer (Client Two) Two next x = next
+onTransfer Master c next x = x
+
+-- the state after an outcome for its caller
+abbrev pub stateAfter : Caller → Outcome → State → State
 stateAfter c o u =
     let e = o .change in
-    let kept = onKept e (stores e (u .running)) (keptIn u) in
+    let kept = onKept e (stores e (u .running) (u .saves .stored)) (keptIn u) in
     record {
       node = u .node;
       identity = u .identity;
       network = u .network;
-      saves = record { blocks = u .saves .blocks; filled = kept .filled; spoiled = u .saves .spoiled; stored = kept .stored };
+      lss = onLss e (u .lss);
+      saves = record { blocks = u .saves .blocks; filled = kept .filled; spoiled = u .saves .spoiled; node = kept .node; stored = kept .stored };
       running = runningAfter e (u .running);
       errors = onErrors e (u .errors);
       heartbeat = onHeartbeat e (u .heartbeat);

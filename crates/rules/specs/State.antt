@@ -1,6 +1,8 @@
 -- The device and what moves it: the device record and the journal it is lent.
+use mathlib.Core.Bool.{Bool, cond}
 use mathlib.Core.List.{List, [], _∷_}
 use Prim.Native.Nat.{ℕ}
+use lib.Dec.{eqb, leb}
 use lib.ListN.{getD}
 use Rattle.rules.specs.declared.errors.ErrorList.{ErrorList}
 use Rattle.rules.specs.declared.objects.Axis.{Axis}
@@ -10,6 +12,7 @@ use Rattle.rules.specs.declared.objects.Channel.the-variants.{One, Two}
 use Rattle.rules.specs.declared.objects.PdoNumber.{PdoNumber}
 use Rattle.rules.specs.declared.objects.PdoNumber.the-variants.{First}
 use Rattle.rules.specs.declared.parts.Identity.{Identity}
+use Rattle.rules.specs.declared.parts.Lss.{Lss}
 use Rattle.rules.specs.declared.parts.PdoCounts.{PdoCounts}
 use Rattle.rules.specs.declared.parts.Reading.{Reading}
 use Rattle.rules.specs.declared.parts.Saves.{Saves}
@@ -21,6 +24,7 @@ pub record State : Type 0 where
   pub node : ℕ
   pub identity : Identity
   pub network : ℕ
+  pub lss : Lss
   pub saves : Saves
   pub running : Settings
   pub errors : ErrorList
@@ -30,6 +34,30 @@ pub record State : Type 0 where
   pub x : Reading
   pub y : Reading
   pub journal : List ℕ
+
+-- "node 1 to 47"; a number that is stored or set is one of these, or 0 for none
+abbrev pub mostNode : ℕ
+mostNode = 47
+
+abbrev pub nodeOrNone : ℕ → Bool
+nodeOrNone n = leb n mostNode
+
+abbrev pub nodeElse : ℕ → ℕ → ℕ
+nodeElse n other = cond (eqb n 0) other n
+
+-- "the number last set, else the running one"
+abbrev pub lastSet : State → ℕ
+lastSet u = nodeElse (u .lss .node) (u .node)
+
+-- LSS waits, or is in configuration; power-on and resets end configuration and matches, and keep the number set
+abbrev pub waiting : ℕ
+waiting = 0
+
+abbrev pub configuration : ℕ
+configuration = 1
+
+abbrev pub unselected : ℕ → Lss
+unselected node = record { mode = waiting; matches = 0; node = node }
 
 -- "NMT state 4, 5 or 127"
 abbrev pub stopped : ℕ
@@ -93,6 +121,7 @@ moved network running errors heartbeat pdo transfers x y u = record {
   node = u .node;
   identity = u .identity;
   network = network;
+  lss = u .lss;
   saves = u .saves;
   running = running;
   errors = errors;

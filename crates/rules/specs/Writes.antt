@@ -2,6 +2,8 @@
 use mathlib.Core.Bool.{Bool, true, false, cond, not, _||_}
 use Prim.Native.Nat.{ℕ, _+_}
 use lib.Dec.{eqb, ltb}
+use Rattle.rules.specs.declared.journal.Origin.{Origin}
+use Rattle.rules.specs.declared.journal.Origin.the-variants.{Saved, Loaded}
 use Rattle.rules.specs.declared.objects.Axis.{Axis}
 use Rattle.rules.specs.declared.objects.Channel.{Channel}
 use Rattle.rules.specs.declared.objects.Object.{Object}
@@ -18,7 +20,6 @@ use Rattle.rules.specs.declared.requests.Verdict.the-variants.{Pass, Abo
 use Rattle.rules.specs.declared.requests.Zeroed.{Zeroed}
 use Rattle.rules.specs.declared.requests.Zeroed.the-variants.{To, Refused}
 use Rattle.rules.specs.Angle.{zeroed}
-use Rattle.rules.specs.Block.{saveKind, loadKind}
 use Rattle.rules.specs.Frames.{pdoAt}
 use Rattle.rules.specs.Numbers.{signed}
 use Rattle.rules.specs.Objects.{rowOf}
@@ -71,11 +72,11 @@ unfoldable pub roomCheck : ℕ → ℕ → ℕ → Verdict
 roomCheck spoiled filled blocks = unless (eqb spoiled 0) 0x06060000 then unless (ltb filled blocks) 0x05040005
 
 -- "wrong signature: 08000020h"; a save or a load fills the next block
-abbrev pub fillWrite : Bool → ℕ → State → WriteRow
-fillWrite signature kind u = record {
+abbrev pub fillWrite : Bool → (Channel → Origin) → State → WriteRow
+fillWrite signature from u = record {
   value = unless signature 0x08000020;
   state = roomCheck (u .saves .spoiled) (u .saves .filled) (u .saves .blocks);
-  change = λ c. Fill c kind;
+  change = λ c. Fill (from c);
 }
 
 -- what a preset makes of its axis, by "6000, 6011, 6014" and the axis
@@ -112,8 +113,8 @@ writeOf (Const f) v u = readOnlyWrite
 writeOf ErrorCount v u = valueWrite (eqb v 0) Empty
 writeOf (ErrorEntry n) v u = readOnlyWrite
 writeOf Name v u = readOnlyWrite
-writeOf Save v u = fillWrite (eqb v 0x65766173) saveKind u
-writeOf Load v u = fillWrite (eqb v 0x64616F6C) loadKind u
+writeOf Save v u = fillWrite (eqb v 0x65766173) Saved u
+writeOf Load v u = fillWrite (eqb v 0x64616F6C) Loaded u
 writeOf Filled v u = readOnlyWrite
 writeOf (Angle a) v u = readOnlyWrite
 writeOf (Of s) v u = settingWrite s v u

@@ -30,12 +30,21 @@ pub struct Transfer {
     pub stage: u8,
 }
 
-// What the record keeps of the journal; spoiled is 1 or 0.
+// The LSS slave: waiting (0) or configuration (1), the selective matches so far, and the node number that was set, 0 where none was.
+#[repr(C)]
+pub struct Lss {
+    pub mode: u16,
+    pub matches: u8,
+    pub node: u8,
+}
+
+// What the record keeps of the journal; spoiled is 1 or 0, and the stored node number is 0 where none is stored.
 #[repr(C)]
 pub struct Saves {
     pub blocks: u16,
     pub filled: u16,
-    pub spoiled: u16,
+    pub spoiled: u8,
+    pub node: u8,
     pub stored: Settings,
 }
 

@@ -1,16 +1,35 @@
-// What a service request asks, what its checks answer and what it changes.
+// What a request asks, what its checks answer and what it changes.
+use crate::journal::Origin;
 use crate::objects::Axis;
 use crate::objects::Channel;
 use crate::objects::Setting;
+use crate::parts::Lss;
 use crate::parts::Transfer;
 
-// The first byte. A write names its length in bytes, 0 for the object's own; a segment its toggle.
+// Who sends a request: the client of a service channel, or the LSS master.
+pub enum Caller {
+    Client(Channel),
+    Master,
+}
+
+// The first byte of a service request. A write names its length in bytes, 0 for the object's own; a segment its toggle.
 pub enum Command {
     Write(u8),
     Read,
     Segment(u8),
     End,
     Unknown,
+}
+
+// The first byte of an LSS request. A number of the identity is named by its place, from 0.
+pub enum LssCommand {
+    Switch,
+    Select(u8),
+    SetNode,
+    StoreNode,
+    TellIdentity(u8),
+    TellNode,
+    Unheard,
 }
 
 // A check: passed, or the abort code.
@@ -38,10 +57,11 @@ pub enum Change {
     Put(Setting, u32),
     Zero(Axis, i16, i16),
     Empty,
-    Fill(Channel, u8),
+    Configure(Lss),
+    Fill(Origin),
 }
 
-// What a request brings about: a reply of eight bytes or none, the channel's transfer after it, and the change.
+// What a request brings about: a reply of eight bytes or none, the channel's transfer after it, if a channel asked, and the change.
 pub struct Outcome {
     pub replies: bool,
     pub bytes: [u8; 8],

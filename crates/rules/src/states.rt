@@ -1,4 +1,4 @@
-// The numbers of the record's states: NMT, transfers and axes.
+// The numbers of the record's states: NMT, transfers, axes and LSS.
 pub const STOPPED: u8 = 4;
 
 pub const OPERATIONAL: u8 = 5;
@@ -16,3 +16,11 @@ pub const NONE: u32 = 0;
 pub const GOOD: u32 = 1;
 
 pub const FAULTY: u32 = 2;
+
+pub const WAITING: u16 = 0;
+
+pub const CONFIGURATION: u16 = 1;
+
+pub const MOST_MATCHES: u8 = 3;
+
+pub const MOST_NODE: u8 = 47;
