@@ -7,6 +7,11 @@ WRITES = (0x22, 0x23, 0x27, 0x2B, 0x2F)
 EXACT = {1: 0x2F, 2: 0x2B, 4: 0x23}
 SAVE, LOAD = 0x65766173, 0x64616F6C
 NAME = (0x1008, 0)
+LSS = 0x7E5
+SWITCH, SET_NUMBER, STORE, INQUIRE_NUMBER = 0x04, 0x11, 0x17, 0x5E
+SELECT = (0x40, 0x41, 0x42, 0x43)
+INQUIRE = (0x5A, 0x5B, 0x5C, 0x5D, INQUIRE_NUMBER)
+NO_LSS = (0x00, 0x03, 0x05, 0x10, 0x12, 0x13, 0x15, 0x18, 0x3F, 0x44, 0x46, 0x4C, 0x59, 0x5F, 0xC0)
 
 # Index, subindex and size of every object; the text has size 0.
 OBJECTS = (
@@ -74,11 +79,12 @@ class Chance:
 
 
 class Trace:
-    """Writes lines and knows the node of the last power-on."""
+    """Writes lines and knows the node in force."""
 
     def __init__(self, output):
         self.output = output
         self.node = 1
+        self.number_set = 0
 
     def raw(self, data):
         self.output.write(data)
@@ -89,6 +95,7 @@ class Trace:
     def power_on(self, node):
         if 1 <= node <= 47:
             self.node = node
+        self.number_set = 0
         self.line("P %02X" % node)
 
     def frame(self, identifier, data=b"", digits=3):
@@ -102,7 +109,10 @@ class Trace:
         self.line("%s %d" % (axis, value))
 
     def network(self, command, node=None):
-        self.frame(0, bytes([command, self.node if node is None else node]))
+        named = self.node if node is None else node
+        self.frame(0, bytes([command, named]))
+        if command in (0x81, 0x82) and named in (0, self.node) and self.number_set:
+            self.node = self.number_set
 
     def start(self):
         self.network(0x01)
@@ -138,6 +148,27 @@ class Trace:
 
     def heartbeat(self, ms):
         self.write(0, 0x1017, 0, 2, ms)
+
+    def lss(self, command, value=0, unused=0):
+        self.frame(LSS, bytes([command]) + value.to_bytes(4, "little") + unused.to_bytes(3, "little"))
+
+    def several_lss(self, commands):
+        for command in commands:
+            self.lss(command)
+
+    def configuration(self):
+        self.stop()
+        self.lss(SWITCH, 1)
+
+    def waiting(self):
+        self.stop()
+        self.lss(SWITCH, 0)
+
+    def set_number(self, number):
+        """Only for a sensor in configuration, where a fitting number is taken at the next reset."""
+        self.lss(SET_NUMBER, number)
+        if 1 <= number <= 47:
+            self.number_set = number
 
 
 def before_power_on(t):
@@ -594,6 +625,183 @@ def malformed_lines(t):
     t.line("F 12345678 001122334455667788")
 
 
+def lss_switches(t):
+    t.power_on(0x14)
+    t.stop()
+    for mode in (1, 0, 1, 2, 0xFF, 0x81, 0, 3, 0x80, 0x101, 0x100, 0):
+        t.lss(SWITCH, mode, 0x010101)
+        t.lss(INQUIRE_NUMBER)
+    t.several_lss((SET_NUMBER, STORE) + INQUIRE + NO_LSS)
+    t.lss(SET_NUMBER, 0x15)
+    t.several_lss(SELECT + INQUIRE + SELECT + NO_LSS)
+    for command in INQUIRE:
+        t.lss(command, 0xFFFFFFFF, 0xFFFFFF)
+    t.network(0x81)
+    t.both_read(0x2100)
+    t.stop()
+    t.lss(INQUIRE_NUMBER)
+
+
+def lss_selections(t):
+    t.power_on(0x15)
+    t.stop()
+    for places in ("0123", "00123", "01123", "01223", "01233", "123", "023", "013", "3210", "01203",
+                   "0120123", "0101", "02123", "012123"):
+        t.lss(SWITCH, 0)
+        t.several_lss(SELECT[int(place)] for place in places)
+        t.lss(INQUIRE_NUMBER)
+    for wrong in SELECT:
+        for value in (1, 0x80000000):
+            t.lss(SWITCH, 0)
+            for command in SELECT:
+                t.lss(command, value if command == wrong else 0, 0xFFFFFF)
+            t.several_lss(command for command in SELECT if command >= wrong)
+            t.lss(INQUIRE_NUMBER)
+
+
+def lss_between_matches(t):
+    t.power_on(0x16)
+    t.stop()
+    for command in (SET_NUMBER, STORE, INQUIRE_NUMBER, 0x13, 0x44, 0x46):
+        t.lss(SWITCH, 0)
+        t.several_lss(SELECT[:3] + (command, SELECT[3], INQUIRE_NUMBER))
+    for mode in (0, 1, 2, 0xFF):
+        t.lss(SWITCH, 0)
+        t.several_lss(SELECT[:3])
+        t.lss(SWITCH, mode)
+        t.several_lss((SELECT[3], INQUIRE_NUMBER))
+    for command in (0x01, 0x80, 0x81, 0x82):
+        t.waiting()
+        t.several_lss(SELECT[:3])
+        t.network(command)
+        t.several_lss((SELECT[0], SELECT[3]))
+        t.stop()
+        t.several_lss((SELECT[3], INQUIRE_NUMBER))
+        t.network(command)
+        t.stop()
+        t.lss(INQUIRE_NUMBER)
+
+
+def lss_numbers(t):
+    t.power_on(0x17)
+    t.configuration()
+    for number in (1, 0, 47, 48, 49, 0x7F, 0x80, 0xFF, 0x11, 0, 0xFF, 48):
+        t.set_number(number)
+        t.lss(INQUIRE_NUMBER)
+    t.lss(SET_NUMBER, 0x00FFFF30)
+    t.network(0x81)
+    t.read(0, 0x1014)
+    for number, first, second in ((1, 0x82, 0x81), (46, 0x81, 0x82), (47, 0x82, 0x82)):
+        t.configuration()
+        t.lss(SET_NUMBER, 0xAAAAAA00, 0xAAAAAA)
+        t.set_number(number)
+        t.lss(SWITCH, 0)
+        t.start()
+        t.pre_operational()
+        t.network(first, 0)
+        t.read(1, 0x1014)
+        t.network(second)
+        t.read(0, 0x1014)
+    t.power_on(0x17)
+    t.network(0x82)
+    t.read(0, 0x1014)
+
+
+def identifiers_of_node(t, node):
+    """Uses what belongs to this node; the sensor obeys only where the node is its own."""
+    for place, (index, sub) in enumerate(((0x1014, 0), (0x1200, 1), (0x1200, 2),
+                                          (0x1201, 1), (0x1201, 2), (0x1800, 1))):
+        data = bytes([READ, index & 0xFF, index >> 8, sub, 0, 0, 0, 0])
+        t.frame((0x600, 0x680)[place % 2] + node, data)
+    for on in (False, True):
+        t.write(0, 0x1800, 1, 4, pdo_identifier(node, on))
+    t.network(0x01, node)
+    t.reading("X", 180001)
+    t.tick(100)
+    t.reading("X", 1234)
+    t.network(0x80, node)
+    t.tick(100)
+    t.network(0x02, node)
+    t.lss(SWITCH, 1)
+    t.lss(INQUIRE_NUMBER)
+    t.network(0x80)
+
+
+def lss_resets(t):
+    for first, second in ((0x81, 0x82), (0x82, 0x81)):
+        t.power_on(0x18)
+        t.heartbeat(100)
+        t.write(1, 0x1010, 1, 4, SAVE)
+        t.configuration()
+        t.set_number(0x29)
+        t.network(first, 0x29)
+        t.tick(100)
+        t.network(first)
+        identifiers_of_node(t, 0x18)
+        identifiers_of_node(t, 0x29)
+        t.network(second, 0x18)
+        t.network(second, 0x29)
+        t.read(0, 0x1014)
+
+
+def lss_outside_stopped(t):
+    t.power_on(0x19)
+    for command in (0x80, 0x01):
+        t.waiting()
+        t.network(command)
+        t.lss(SWITCH, 1)
+        t.several_lss(SELECT + INQUIRE)
+        t.configuration()
+        t.network(command)
+        t.lss(SET_NUMBER, 0x2A)
+        t.several_lss((STORE, SWITCH) + INQUIRE)
+        t.stop()
+        t.several_lss((INQUIRE_NUMBER, SET_NUMBER))
+        t.network(0x82)
+        t.read(1, 0x2100)
+    t.configuration()
+    for command in (SWITCH, SET_NUMBER, STORE, INQUIRE_NUMBER):
+        for length in (1, 2, 7, 9):
+            t.frame(LSS, bytes([command] + [0] * 8)[:length])
+    t.frame(LSS)
+    for identifier in (LSS - 1, LSS + 1, 0x5E5, 0x600 + t.node, LSS + 0x800):
+        t.frame(identifier, bytes([INQUIRE_NUMBER] + [0] * 7))
+    t.frame(LSS, bytes([INQUIRE_NUMBER] + [0xFF] * 7), digits=8)
+
+
+def journal_step(t, step):
+    if step == STORE:
+        t.configuration()
+        t.lss(STORE, 0xFFFFFFFF, 0xFFFFFF)
+        t.lss(INQUIRE_NUMBER)
+        t.pre_operational()
+    elif step == SAVE:
+        t.write(0, 0x1010, 1, 4, SAVE)
+    else:
+        t.write(1, 0x1011, 1, 4, LOAD)
+    t.read(0, 0x2100)
+
+
+def lss_stores(t):
+    for number, steps in ((0, (STORE, STORE, STORE)), (0x1B, (SAVE, STORE, STORE)),
+                          (0, (LOAD, STORE, SAVE)), (0x1B, (STORE, SAVE, LOAD)),
+                          (0x1B, (STORE, LOAD, STORE))):
+        t.power_on(0x1A)
+        for place, step in enumerate(steps):
+            t.heartbeat(1000 + place)
+            t.write(1, 0x6014, 0, 2, 60 + place)
+            if place == 1:
+                t.configuration()
+                t.set_number(number)
+                t.pre_operational()
+            journal_step(t, step)
+        for command in (0x82, 0x81):
+            t.network(command)
+            t.read(0, 0x1017)
+            t.read(0, 0x6014)
+        t.read(1, 0x2100)
+
+
 def random_request(t, chance):
     channel = chance.number(2)
     kind = chance.number(20)
@@ -625,8 +833,24 @@ def random_frame(t, chance):
     t.frame(identifier, bytes(chance.number(256) for _ in range(chance.number(10))))
 
 
+def random_lss(t, chance):
+    """Sets a fitting number only where the sensor is known to be in configuration."""
+    kind = chance.number(8)
+    if kind < 2:
+        t.several_lss(SELECT)
+    elif kind < 4:
+        t.lss(chance.pick(SELECT), chance.number(2) * chance.number(3))
+    elif kind < 6:
+        t.lss(chance.pick((SWITCH, SWITCH, STORE) + INQUIRE + NO_LSS), chance.number(3))
+    else:
+        t.configuration()
+        for _ in range(chance.number(3)):
+            t.set_number(chance.number(56))
+            t.lss(chance.pick(INQUIRE + (STORE, STORE)))
+
+
 def random_line(t, chance):
-    kind = chance.number(100)
+    kind = chance.number(106)
     if kind < 55:
         random_request(t, chance)
     elif kind < 68:
@@ -642,8 +866,10 @@ def random_line(t, chance):
         random_frame(t, chance)
     elif kind < 98:
         t.line(chance.pick(("T", "X 1 ", "F 80 0", "P", "P 1", "T 65536", "", "Y -0", "q")))
-    else:
+    elif kind < 100:
         t.power_on(1 + chance.number(47))
+    else:
+        random_lss(t, chance)
 
 
 def main():
@@ -651,7 +877,8 @@ def main():
     for section in (before_power_on, sample, refused_power_ons, every_read, every_write_length,
                     every_written_value, first_bytes, unknown_objects, network_commands, segments,
                     saves_until_full, readings, angles, zeros, ticks, writes_between_ticks, syncs,
-                    frame_lengths, malformed_lines):
+                    frame_lengths, malformed_lines, lss_switches, lss_selections,
+                    lss_between_matches, lss_numbers, lss_resets, lss_outside_stopped, lss_stores):
         section(t)
     chance = Chance(0x54494C54)
     t.power_on(0x01)

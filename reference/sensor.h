@@ -36,6 +36,11 @@ enum reference_transfer {
     REFERENCE_AFTER_SEVEN = 2
 };
 
+enum reference_lss_mode {
+    REFERENCE_LSS_WAITING = 0,
+    REFERENCE_LSS_CONFIGURATION = 1
+};
+
 enum reference_axis_state {
     REFERENCE_AXIS_NONE = 0,
     REFERENCE_AXIS_GOOD = 1,
@@ -95,7 +100,14 @@ struct reference_saves {
     uint16_t blocks;
     uint16_t filled;
     uint8_t spoiled;
+    uint8_t stored_number;
     struct reference_settings stored;
+};
+
+struct reference_lss {
+    uint8_t mode;
+    uint8_t matches;
+    uint8_t number_set;
 };
 
 struct reference_errors {
@@ -119,6 +131,7 @@ struct reference_record {
     struct reference_settings running;
     struct reference_errors errors;
     struct reference_axis axes[REFERENCE_AXES];
+    struct reference_lss lss;
 };
 
 struct reference_received {
