@@ -1,7 +1,10 @@
 /* The recorder's side: recorder NODE JOURNAL < LOG. Power-on from a journal file, events from a log, frames to standard output.
  *
- * The log has the trace program's lines (F, T, X, Y); a line that begins with # is a remark. A block that a save or load fills is in
- * the file before the reply goes out, so what was acknowledged is never lost: where the file cannot be written, nothing is sent. */
+ * The log has the trace program's lines (F, T, X, Y); a line that begins with # is a remark. A block that a save, load or store fills is
+ * in the file before the reply goes out, so what was acknowledged is never lost: where the file cannot be written, nothing is sent.
+ *
+ * NODE comes from the recorder's own memory or switch and is never changed there: a number that LSS has stored is in the journal and
+ * holds instead of it. The record has the number in force. */
 #include "basintilt.h"
 
 #include <stdio.h>
@@ -26,6 +29,16 @@ static void send_all(const struct basintilt_answer *answer)
         send(&answer->frames[i]);
 }
 
+/* What comes in for the sensor: a target sets its controller's filter here, before boot-up goes out under a new number. */
+static void listen(void)
+{
+    static uint8_t node;
+    if (device.node != node)
+        printf("listens at %03X, %03X, %03X, %03X, %03X\n", BASINTILT_NMT_AT, BASINTILT_SYNC_AT, BASINTILT_REQUEST_ONE_AT + device.node,
+               BASINTILT_REQUEST_TWO_AT + device.node, BASINTILT_LSS_REQUEST_AT);
+    node = device.node;
+}
+
 static void show_blocks(void)
 {
     static const char *const what[] = {"good", "blank", "neither"};
@@ -43,8 +56,9 @@ static void show_axis(char name, struct basintilt_reading axis)
 
 static void show_record(void)
 {
-    printf("record: node %u, state %u, %u of %u blocks filled%s, %u errors", device.node, device.network, device.saves.filled,
-           device.saves.blocks, device.saves.spoiled ? ", spoiled" : "", device.errors.length);
+    printf("record: node %u, set %u, stored %u, state %u, %u of %u blocks filled%s, %u errors", device.node, device.lss.node,
+           device.saves.node, device.network, device.saves.filled, device.saves.blocks, device.saves.spoiled ? ", spoiled" : "",
+           device.errors.length);
     show_axis('X', device.x);
     show_axis('Y', device.y);
     printf("\n");
@@ -105,7 +119,8 @@ static void take(struct basintilt_happening happening, FILE *file)
     else if (answer.refusal != BASINTILT_ACCEPTED)
         stop("record or journal was changed by someone else");
     if (device.saves.filled != filled && !keep_last_block(file))
-        stop("the journal cannot be written; the save is not acknowledged");
+        stop("the journal cannot be written; the block is not acknowledged");
+    listen();
     send_all(&answer);
 }
 
@@ -119,6 +134,7 @@ static void start(unsigned node, FILE *file)
         stop("the journal's length is not 512 times 1 to 128");
     device = stepped.device;
     show_blocks();
+    listen();
     send_all(&stepped.answer);
 }
 
