@@ -6,6 +6,8 @@ TOO_LONG, TOO_SHORT, WRONG_VALUE = 0x06070012, 0x06070013, 0x06090030
 NODES = range(1, 48)
 SEGMENT = 7
 FAULT_AND_BACK = ["X 180001", "X 0"]
+LSS, TELL_NODE = (0x7E5, 0x7E4), "5E00000000000000"
+TO_CONFIGURATION = ["F 000 0200", "F 7E5 0401000000000000"]
 
 
 def power_on(questions, node):
@@ -155,6 +157,21 @@ def questions_on(objects, asked, nodes, values):
         questions.through(channels(objects, node)[channel])
         for entry in asked:
             ask_access(questions, entry, node, values)
+    return questions
+
+
+def lss_questions(sheet, nodes):
+    """Whether the sensor tells its number by LSS: it does where the sheet has LSS, and there is no reply where it has not."""
+    questions = Questions()
+    questions.through(LSS)
+    for node in nodes:
+        power_on(questions, node)
+        for line in TO_CONFIGURATION:
+            questions.line(line)
+        if sheet["DeviceInfo"]["LSS_Supported"] == "1":
+            questions.ask(bytes.fromhex(TELL_NODE), bytes([0x5E, node]) + bytes(6), f"node {node} by LSS")
+        else:
+            questions.line(f"F 7E5 {TELL_NODE}")
     return questions
 
 
