@@ -3,12 +3,14 @@ import time
 
 import can
 
-NODE = 1
 LONGEST = 8  # seconds that a frame is waited for
 
 
 class Desk:
-    def __init__(self, terminal):
+    """A desk for the sensor of one node."""
+
+    def __init__(self, terminal, node):
+        self.node = node
         self.bus = can.interface.Bus(interface="slcan", channel=terminal, ttyBaudrate=115200, bitrate=125000, sleep_after_open=0)
         self.port = self.bus.serialPortOrig
 
@@ -37,11 +39,11 @@ class Desk:
 
     def settled(self):
         """The frames that come before the reply to one more request: the board takes lines in their order, so nothing is on its way then."""
-        self.send(0x600 + NODE, "4000100000000000")
+        self.send(0x600 + self.node, "4000100000000000")
         end, found = time.monotonic() + LONGEST, []
         while time.monotonic() < end:
             frame = self.bus.recv(end - time.monotonic())
-            if frame is not None and frame.arbitration_id == 0x580 + NODE:
+            if frame is not None and frame.arbitration_id == 0x580 + self.node:
                 return found
             found += [] if frame is None else [(frame.arbitration_id, frame.data.hex().upper())]
         return found + ["no reply"]
@@ -58,12 +60,19 @@ class Desk:
 
     def request(self, channel, text):
         """A request of a service channel, and its reply."""
-        self.send({1: 0x600, 2: 0x680}[channel] + NODE, text)
-        return self.wait({1: 0x580, 2: 0x6B0}[channel] + NODE)
+        self.send({1: 0x600, 2: 0x680}[channel] + self.node, text)
+        return self.wait({1: 0x580, 2: 0x6B0}[channel] + self.node)
+
+    def lss(self, command, number=0):
+        """An LSS request, of which not every one is answered."""
+        self.send(0x7E5, f"{command:02x}" + number.to_bytes(4, "little").hex() + "000000")
 
     def read(self, channel, index, sub=0):
-        """An object's number, or the abort code."""
-        said = bytes.fromhex(self.request(channel, "40" + index.to_bytes(2, "little").hex() + f"{sub:02x}" + "00000000"))
+        """An object's number, or the abort code, or that no frame came."""
+        reply = self.request(channel, "40" + index.to_bytes(2, "little").hex() + f"{sub:02x}" + "00000000")
+        if reply == "no frame":
+            return reply
+        said = bytes.fromhex(reply)
         sizes = {0x4F: 1, 0x4B: 2, 0x43: 4, 0x80: 4}
         if said[1:4] != index.to_bytes(2, "little") + bytes([sub]) or said[0] not in sizes:
             return said.hex()

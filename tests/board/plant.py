@@ -31,14 +31,14 @@ def tell(what):
         print(what)
 
 
-def powered(program=firmware, said=b"!0\r", file=journal):
+def powered(program=firmware, said=b"!0\r", file=journal, node=1):
     """A board that has started and has said so, and a desk at its line."""
     board = Board(program, file)
     with board.line() as line:
         board.go()
         check("the line at start", line.read(len(said)), said)
-        desk = Desk(board.terminal)
-    check("boot-up behind the first O", desk.wait(0x701), "00")
+        desk = Desk(board.terminal, node)
+    check("boot-up behind the first O", desk.wait(0x700 + node), "00")
     return board, desk
 
 
@@ -175,6 +175,44 @@ def resets(desk):
     check("the axis is none", desk.read(2, 0x6010), "abort 08000022")
 
 
+def session(desk, number):
+    """LSS by identity: that of another board first, which is not answered; a number that is none; the number, stored; the reset."""
+    desk.send(0x000, "0200")
+    for serial in 2, 1:
+        for command, value in zip(range(0x40, 0x44), (0, 0, 0, serial)):
+            desk.lss(command, value)
+    replies = [(0x5E, 0, f"5E{desk.node:02X}"), (0x11, 48, "1101"), (0x11, number, "1100"), (0x5E, 0, f"5E{desk.node:02X}"), (0x17, 0, "1700")]
+    check("this board is selected", desk.wait(0x7E4), "4400000000000000")
+    for command, value, reply in replies:
+        desk.lss(command, value)
+        check(f"the reply to LSS {command:02X} {value}", desk.wait(0x7E4), reply.ljust(16, "0"))
+
+
+def numbered():
+    """A number by LSS on a journal of its own: it is stored behind the reply, taken at the reset, kept over a power cut, carried on by a save."""
+    file, number = f"{folder}/numbered", 5
+    board, desk = powered(file=file)
+    session(desk, number)
+    saved(board, 1, 3, 3)
+    desk.lss(0x04, 0)
+    desk.send(0x000, "8200")
+    check("boot-up under the new number", desk.wait(0x700 + number), "00")
+    desk.send(0x601, "4000100000000000")
+    desk.node = number
+    check("the old number is silent", desk.settled(), [])
+    check("1014 of the new number", desk.read(2, 0x1014), 0x80 + number)
+    stack(board)
+    board.cut()
+    desk.port.close()
+    board, desk = powered(file=file, node=number)
+    check("1014 of the stored number", desk.read(1, 0x1014), 0x80 + number)
+    check("a save under it", desk.write(2, 0x1010, 1, SAVE, 4), "written")
+    saved(board, 2, 2, 1)
+    check("byte 28 of both blocks", (board.blocks()[28], board.blocks()[BLOCK + 28]), (number, number))
+    desk.leave()
+    board.cut()
+
+
 def kept(desk, filled):
     """What a board has that was started on this journal."""
     check("filled blocks at start", desk.read(1, 0x2100), filled)
@@ -299,7 +337,7 @@ def unread(desk):
 
 def overwritten(board, desk):
     """Someone writes into the record: its number is said once, and until the next start the sensor stands still."""
-    for offset, size, value, said in (105, 1, 7, b"!3\r"), (38, 2, BLOCKS - 1, b"!1\r"):
+    for offset, size, value, said in (109, 1, 7, b"!3\r"), (38, 2, BLOCKS - 1, b"!1\r"):
         desk.settled()
         blocks, debugger = board.blocks(), Debugger(board)
         debugger.write("device", offset, value, size)
@@ -386,6 +424,8 @@ def day():
     resets(desk)
     tell(f"a plant desk by python-can: the paper's sample, angles, zero, saves, SYNC, heartbeat every {1000 * period:.1f} ms, errors, resets")
     stack(board)
+    numbered()
+    tell("a number by LSS: stored, taken at a reset, kept by the journal over a power cut")
     board, desk = restarts(board, desk)
     board, desk = moments(board, desk)
     tell("a reset, a power cut behind a reply, before the save's event and before its reply: the journal has what it should")
