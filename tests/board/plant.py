@@ -1,4 +1,4 @@
-# What a plant desk does with the emulated board, held against document 01: plant.py FOLDER, which has the firmwares that run builds.
+# What a plant desk does with the emulated board, held against documents 01 and 02: plant.py FOLDER, which has the firmwares that run builds.
 import binascii
 import os
 import random
