@@ -1,74 +1,24 @@
+-- `command` meets its contract: each arm knows its first byte, and the last that it is none of them.
+use borrow.Author.Tests.{ne-eqb}
+use Rattle.rules.specs.Lss.{lssCommandOf}
 use Rattle.lss.proofs.command.Statement.{statement}
 use Rattle.lss.proofs.command.Tie as tie
-use Rattle.lss.proofs.command.Reads as reads
-use Rattle.lss.proofs.command.Lts as lts
-
--- src/lib.rt:32:1
-returns : tie.Need-returns
-returns c = ?
-
--- src/lib.rt:32:1
-returns-2 : tie.Need-returns-2
-returns-2 c = ?
-
--- src/lib.rt:32:1
-returns-3 : tie.Need-returns-3
-returns-3 c = ?
-
--- src/lib.rt:32:1
-returns-4 : tie.Need-returns-4
-returns-4 c = ?
-
--- src/lib.rt:32:1
-returns-5 : tie.Need-returns-5
-returns-5 c = ?
-
--- src/lib.rt:32:1
-returns-6 : tie.Need-returns-6
-returns-6 c = ?
-
--- src/lib.rt:32:1
-returns-7 : tie.Need-returns-7
-returns-7 c = ?
-
--- src/lib.rt:32:1
-returns-8 : tie.Need-returns-8
-returns-8 c = ?
-
--- src/lib.rt:32:1
-returns-9 : tie.Need-returns-9
-returns-9 c = ?
-
--- src/lib.rt:32:1
-returns-10 : tie.Need-returns-10
-returns-10 c = ?
-
--- src/lib.rt:32:1
-returns-11 : tie.Need-returns-11
-returns-11 c = ?
-
--- src/lib.rt:32:1
-returns-12 : tie.Need-returns-12
-returns-12 c = ?
-
--- src/lib.rt:32:1
-returns-13 : tie.Need-returns-13
-returns-13 c = ?
 
 pub command-spec : {M : Type 1} → statement M
+unfolding lssCommandOf
 command-spec =
     tie.close
     (tie.spec
-    returns
-    returns-2
-    returns-3
-    returns-4
-    returns-5
-    returns-6
-    returns-7
-    returns-8
-    returns-9
-    returns-10
-    returns-11
-    returns-12
-    returns-13)
+    (λ c. rw (c .match .keys1))
+    (λ c. rw (c .match .keys2))
+    (λ c. rw (c .match .keys3))
+    (λ c. rw (c .match .keys4))
+    (λ c. rw (c .match .keys5))
+    (λ c. rw (c .match .keys6))
+    (λ c. rw (c .match .keys7))
+    (λ c. rw (c .match .keys8))
+    (λ c. rw (c .match .keys9))
+    (λ c. rw (c .match .keys10))
+    (λ c. rw (c .match .keys11))
+    (λ c. rw (c .match .keys12))
+    (λ c. simp (ne-eqb _ 0x04 (c .match .rest .0 .0 .0 .0 .0 .0 .0 .0 .0 .0 .0 .1), ne-eqb _ 0x40 (c .match .rest .0 .0 .0 .0 .0 .0 .0 .0 .0 .0 .1), ne-eqb _ 0x41 (c .match .rest .0 .0 .0 .0 .0 .0 .0 .0 .0 .1), ne-eqb _ 0x42 (c .match .rest .0 .0 .0 .0 .0 .0 .0 .0 .1), ne-eqb _ 0x43 (c .match .rest .0 .0 .0 .0 .0 .0 .0 .1), ne-eqb _ 0x11 (c .match .rest .0 .0 .0 .0 .0 .0 .1), ne-eqb _ 0x17 (c .match .rest .0 .0 .0 .0 .0 .1), ne-eqb _ 0x5A (c .match .rest .0 .0 .0 .0 .1), ne-eqb _ 0x5B (c .match .rest .0 .0 .0 .1), ne-eqb _ 0x5C (c .match .rest .0 .0 .1), ne-eqb _ 0x5D (c .match .rest .0 .1), ne-eqb _ 0x5E (c .match .rest .1))))

@@ -1,40 +1,25 @@
+-- `select` meets its contract: the tests in their order; a match that is not the fourth is one more.
+use mathlib.Core.Bool.{Bool, _&&_, _||_}
+use Prim.Native.Nat.{ℕ}
 use borrow.Author.Needs.{needs}
+use borrow.Author.Tests.{eq-eqb, ne-eqb, not-true, not-false}
+use lib.Dec.{eqb}
+use Rattle.rules.specs.Lss.{onSelect}
 use Rattle.lss.proofs.select.Statement.{statement}
 use Rattle.lss.proofs.select.Tie as tie
-use Rattle.lss.proofs.select.Reads as reads
-use Rattle.lss.proofs.select.Lts as lts
-use Rattle.lss.proofs.said.Reads as said-reads
-use Rattle.lss.proofs.silent.Reads as silent-reads
 
--- src/lib.rt:125:9
-silent-requires : tie.Need-silent-requires
-silent-requires c κs = search needs
-
--- src/lib.rt:125:9
-returns : tie.Need-returns
-returns c = ?
-
--- src/lib.rt:129:9
-said-requires : tie.Need-said-requires
-said-requires c κs = search needs
-
--- src/lib.rt:129:9
-returns-2 : tie.Need-returns-2
-returns-2 c = ?
-
--- src/lib.rt:131:20
-add-next : tie.Need-add-next
-add-next c = search needs
-
--- src/lib.rt:132:5
-silent-requires-2 : tie.Need-silent-requires-2
-silent-requires-2 c κs = search needs
-
--- src/lib.rt:115:1
-returns-3 : tie.Need-returns-3
-returns-3 c = ?
+abbrev counts : ℕ → Bool → ℕ → Bool
+counts before same matches = same && (eqb before 0 || eqb matches before)
 
 pub select-spec : {M : Type 1} → statement M
+unfolding onSelect
 select-spec =
     tie.close
-    (tie.spec silent-requires returns said-requires returns-2 add-next silent-requires-2 returns-3)
+    (tie.spec
+    (λ c κs. search needs)
+    (λ c. let a = c .before .before .before .args in simp (not-true (counts (a .before) (a .same) (a .l .matches)) (c .before .if1 .taken), c .silent .ensures))
+    (λ c κs. search needs)
+    (λ c. let a = c .before .before .before .before .args in simp (not-false (counts (a .before) (a .same) (a .l .matches)) (c .before .before .if1 .left), eq-eqb _ _ (c .before .if2 .taken), c .said .ensures))
+    (λ c. search needs)
+    (λ c κs. search needs)
+    (λ c. let a = c .before .before .before .before .args in simp (not-false (counts (a .before) (a .same) (a .l .matches)) (c .before .before .if1 .left), ne-eqb _ _ (c .before .if2 .left), c .silent2 .ensures)))
