@@ -13,6 +13,7 @@ use view::View;
 ghost use mathlib.Core.Path.{_≡_};
 ghost use Prim.Native.Nat.{_≤_};
 ghost use Rattle.rules.specs.Lss.{lssCommandOf, identityPart, matchesBefore, lssReplied, lssSilent, onSwitch, onSelect, onSetNode, onStore, inMode, onLssCommand, lssOutcome};
+ghost use Rattle.rules.specs.State;
 ghost use Rattle.rules.specs.State.{nodeElse, lastSet};
 ghost use Rattle.rules.specs.Writes.{roomCheck};
 ghost use Rattle.view.specs.Seen.{viewed};
@@ -26,6 +27,17 @@ pub fn node_else(node: u8, other: u8) -> u8
     ensures { λ r. ⌜ r ≡ nodeElse node other ⌝ }
 {
     if node == 0 { other } else { node }
+}
+
+// Neither selected nor in configuration, with a number set or 0.
+pub fn unselected(node: u8) -> Lss
+    ensures { λ r. ⌜ r ≡ State.unselected node ⌝ }
+{
+    Lss {
+        mode: states::WAITING,
+        matches: 0,
+        node,
+    }
 }
 
 fn command(first: u8) -> LssCommand
@@ -115,11 +127,7 @@ fn select(before: u8, same: bool, l: Lss) -> Outcome
     requires { ⌜ before ≤ 3 ⌝ }
     ensures { λ r. ⌜ r ≡ onSelect before same l ⌝ }
 {
-    let mut next = Lss {
-        mode: states::WAITING,
-        matches: 0,
-        node: l.node,
-    };
+    let mut next = unselected(l.node);
     if !(same & ((before == 0) | (l.matches == before))) {
         return silent(Change::Configure(next));
     }

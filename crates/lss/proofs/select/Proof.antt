@@ -17,9 +17,10 @@ select-spec =
     tie.close
     (tie.spec
     (λ c κs. search needs)
-    (λ c. let a = c .before .before .before .args in simp (not-true (counts (a .before) (a .same) (a .l .matches)) (c .before .if1 .taken), c .silent .ensures))
     (λ c κs. search needs)
-    (λ c. let a = c .before .before .before .before .args in simp (not-false (counts (a .before) (a .same) (a .l .matches)) (c .before .before .if1 .left), eq-eqb _ _ (c .before .if2 .taken), c .said .ensures))
+    (λ c. let a = c .before .before .before .before .args in simp (not-true (counts (a .before) (a .same) (a .l .matches)) (c .before .if1 .taken), c .silent .ensures, c .before .before .before .unselected .ensures))
+    (λ c κs. search needs)
+    (λ c. let a = c .before .before .before .before .before .args in simp (not-false (counts (a .before) (a .same) (a .l .matches)) (c .before .before .if1 .left), eq-eqb _ _ (c .before .if2 .taken), c .said .ensures, c .before .before .before .before .unselected .ensures))
     (λ c. search needs)
     (λ c κs. search needs)
-    (λ c. let a = c .before .before .before .before .args in simp (not-false (counts (a .before) (a .same) (a .l .matches)) (c .before .before .if1 .left), ne-eqb _ _ (c .before .if2 .left), c .silent2 .ensures)))
+    (λ c. let a = c .before .before .before .before .before .args in simp (not-false (counts (a .before) (a .same) (a .l .matches)) (c .before .before .if1 .left), ne-eqb _ _ (c .before .if2 .left), c .silent2 .ensures, c .before .before .before .before .unselected .ensures)))
