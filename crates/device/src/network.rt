@@ -82,7 +82,12 @@ impl Device {
         ensures { λ r. ⌜ r ≡ steppedOf (does act (alone self)) ⌝ }
     {
         let set = self.lss.node;
-        Device::start(lss::node_else(set, self.node), self.identity, self.saves, set)
+        Device::start(
+            lss::node_else(set, self.node),
+            self.identity,
+            self.saves,
+            set,
+        )
     }
 
     // 82h: 1017 and 1800 from the stored settings, and the number set.
