@@ -12,43 +12,25 @@ use Rattle.rules.specs.declared.journal.Origin.the-variants.{Stored}
 use Rattle.rules.specs.declared.parts.Lss.{Lss}
 use Rattle.rules.specs.declared.requests.Change.{Change}
 use Rattle.rules.specs.declared.requests.Change.the-variants.{Keep, Configure, Fill}
+use Rattle.rules.specs.declared.requests.IdentityPart.{IdentityPart}
+use Rattle.rules.specs.declared.requests.IdentityPart.the-variants.{Vendor, Product, Revision, Serial}
 use Rattle.rules.specs.declared.requests.LssCommand.{LssCommand}
 use Rattle.rules.specs.declared.requests.LssCommand.the-variants.{Switch, Select, SetNode, StoreNode, TellIdentity, TellNode, Unheard}
 use Rattle.rules.specs.declared.requests.Outcome.{Outcome}
 use Rattle.rules.specs.declared.requests.Verdict.{Verdict}
 use Rattle.rules.specs.declared.requests.Verdict.the-variants.{Pass, Abort}
-use Rattle.rules.specs.Lss.{lssCommandOf, identityAt, lssReplied, lssSilent, onSwitch, onSelect, onSetNode, onStore, inMode, onLssCommand, lssOutcome}
+use Rattle.rules.specs.Lss.{lssCommandOf, lssReplied, lssSilent, onSwitch, onSelect, onSetNode, onStore, inMode, onLssCommand, lssOutcome, identityPart, matchesBefore}
 use Rattle.rules.specs.Numbers.{fourAt}
 use Rattle.rules.specs.Ranges.{nodeOk, lssOk}
 use Rattle.rules.specs.State.{State, stopped, waiting, configuration, lastSet}
 use Rattle.rules.specs.Writes.{roomCheck}
 use Rattle.rules.proofs.Nodes.{node-small, lss-in, lss-node, lss-mode, lss-matches}
 
--- a number of the identity is one of four
-abbrev Placed : LssCommand → Type 0
-Placed Switch = Unit {0}
-Placed (Select place) = place ≤ 3
-Placed SetNode = Unit {0}
-Placed StoreNode = Unit {0}
-Placed (TellIdentity place) = place ≤ 3
-Placed TellNode = Unit {0}
-Placed Unheard = Unit {0}
-
-placed : (first : ℕ) → Placed (lssCommandOf first)
-unfolding lssCommandOf
-placed first =
-    cond-both Placed (eqb first 0x04) tt
-    (cond-both Placed (eqb first 0x40) (omega arith)
-    (cond-both Placed (eqb first 0x41) (omega arith)
-    (cond-both Placed (eqb first 0x42) (omega arith)
-    (cond-both Placed (eqb first 0x43) (omega arith)
-    (cond-both Placed (eqb first 0x11) tt
-    (cond-both Placed (eqb first 0x17) tt
-    (cond-both Placed (eqb first 0x5A) (omega arith)
-    (cond-both Placed (eqb first 0x5B) (omega arith)
-    (cond-both Placed (eqb first 0x5C) (omega arith)
-    (cond-both Placed (eqb first 0x5D) (omega arith)
-    (cond-both Placed (eqb first 0x5E) tt tt)))))))))))
+few : (p : IdentityPart) → matchesBefore p ≤ 3
+few Vendor = omega arith
+few Product = omega arith
+few Revision = omega arith
+few Serial = omega arith
 
 -- a reply that acknowledges no store
 abbrev pub NoStore : ℕ → ℕ → Type 0
@@ -73,13 +55,13 @@ module _ (request : List ℕ) (u : State) (P : Outcome → Type 0) where
     switches mode =
         cond-each (λ (e : Change). P (lssSilent e)) (leb mode 1) (λ m. each .changed _ (λ h. lss-in mode 0 (u .lss .node) m refl (lss-node (u .lss) h))) (λ m. each .silent)
 
-    selects : (place : ℕ) → place ≤ 3 → (same : Bool) → P (onSelect place same (u .lss))
+    selects : (before : ℕ) → before ≤ 3 → (same : Bool) → P (onSelect before same (u .lss))
     unfolding onSelect
-    selects place most same =
-        cond-both P (same && (eqb place 0 || eqb (u .lss .matches) place))
-        (cond-each P (eqb place 3)
+    selects before most same =
+        cond-both P (same && (eqb before 0 || eqb (u .lss .matches) before))
+        (cond-each P (eqb before 3)
         (λ last. each .configured 0x44 _ refl (λ h. lss-in 1 0 (u .lss .node) refl refl (lss-node (u .lss) h)))
-        (λ more. each .changed _ (λ h. lss-in 0 (place + 1) (u .lss .node) refl (le-leb (place + 1) 3 (omega (arith, eqb-false place 3 more))) (lss-node (u .lss) h))))
+        (λ more. each .changed _ (λ h. lss-in 0 (before + 1) (u .lss .node) refl (le-leb (before + 1) 3 (omega (arith, eqb-false before 3 more))) (lss-node (u .lss) h))))
         (each .changed _ (λ h. lss-in 0 0 (u .lss .node) refl refl (lss-node (u .lss) h)))
 
     sets : (n : ℕ) → P (onSetNode n (u .lss))
@@ -93,20 +75,21 @@ module _ (request : List ℕ) (u : State) (P : Outcome → Type 0) where
     stores Pass e = each .stored e
     stores (Abort code) e = each .answered 0x17 2 refl
 
-    tells-not : (place n : ℕ) → place ≤ 3 → NoStore (0x5A + place) n
-    tells-not place n h = rw (ne-eqb (0x5A + place) 0x17 (omega arith))
+    tells-not : (p : IdentityPart) (n : ℕ) → NoStore (0x5A + matchesBefore p) n
+    tells-not p n = rw (ne-eqb (0x5A + matchesBefore p) 0x17 (omega (arith, few p)))
 
     served : (mode : ℕ) (o : Outcome) → P o → P (inMode mode (u .lss) o)
     served mode o h = cond-both P (eqb (u .lss .mode) mode) h (each .silent)
 
-    commands : (k : LssCommand) → Placed k → P (onLssCommand k request u)
-    commands Switch h = switches (getD request 1 0)
-    commands (Select place) h = served waiting _ (selects place h (eqb (fourAt request 1) (identityAt place (u .identity))))
-    commands SetNode h = served configuration _ (sets (getD request 1 0))
-    commands StoreNode h = served configuration _ (stores (roomCheck (u .saves .spoiled) (u .saves .filled) (u .saves .blocks)) refl)
-    commands (TellIdentity place) h = served configuration _ (each .answered (0x5A + place) (identityAt place (u .identity)) (tells-not place (identityAt place (u .identity)) h))
-    commands TellNode h = served configuration _ (each .answered 0x5E (u .node) refl)
-    commands Unheard h = each .silent
+    commands : (k : LssCommand) → P (onLssCommand k request u)
+    commands Switch = switches (getD request 1 0)
+    commands (Select p) = served waiting _ (selects (matchesBefore p) (few p) (eqb (fourAt request 1) (identityPart p (u .identity))))
+    commands SetNode = served configuration _ (sets (getD request 1 0))
+    commands StoreNode = served configuration _ (stores (roomCheck (u .saves .spoiled) (u .saves .filled) (u .saves .blocks)) refl)
+    commands (TellIdentity p) =
+        served configuration _ (each .answered (0x5A + matchesBefore p) (identityPart p (u .identity)) (tells-not p (identityPart p (u .identity))))
+    commands TellNode = served configuration _ (each .answered 0x5E (u .node) refl)
+    commands Unheard = each .silent
 
     pub each-lss : P (lssOutcome request u)
-    each-lss = cond-both P (eqb (u .network) stopped) (commands (lssCommandOf (getD request 0 0)) (placed (getD request 0 0))) (each .silent)
+    each-lss = cond-both P (eqb (u .network) stopped) (commands (lssCommandOf (getD request 0 0))) (each .silent)

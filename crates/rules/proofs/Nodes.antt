@@ -21,18 +21,14 @@ node-else n other small ok =
 -- LSS in its range, by its parts
 pub lss-in : (mode matches node : ℕ) → leb mode configuration ≡ true → leb matches 3 ≡ true → nodeOrNone node ≡ true
     → lssOk (record { mode = mode; matches = matches; node = node }) ≡ true
-unfolding lssOk
 lss-in mode matches node m c n = both (both m c) n
 
 module _ (l : Lss) (e : lssOk l ≡ true) where
   pub lss-node : nodeOrNone (l .node) ≡ true
-  unfolding lssOk
   lss-node = right (leb (l .mode) configuration && leb (l .matches) 3) (nodeOrNone (l .node)) e
 
   pub lss-mode : leb (l .mode) configuration ≡ true
-  unfolding lssOk
   lss-mode = left (leb (l .mode) configuration) (leb (l .matches) 3) (left (leb (l .mode) configuration && leb (l .matches) 3) (nodeOrNone (l .node)) e)
 
   pub lss-matches : leb (l .matches) 3 ≡ true
-  unfolding lssOk
   lss-matches = right (leb (l .mode) configuration) (leb (l .matches) 3) (left (leb (l .mode) configuration && leb (l .matches) 3) (nodeOrNone (l .node)) e)
