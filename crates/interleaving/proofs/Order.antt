@@ -13,7 +13,7 @@ use Rattle.rules.specs.Angle.{q, sum, angle, offset, zeroed}
 use Rattle.rules.specs.Events.{NotRefused, event}
 use Rattle.rules.specs.Numbers.{twoAt, fourAt}
 use Rattle.rules.specs.Objects.{find}
-use Rattle.rules.specs.Ranges.{errorsOk, axisOk, lssOk, inRange}
+use Rattle.rules.specs.Ranges.{errorsOk, axisOk, inRange}
 use Rattle.rules.specs.Reads.{angleRead, entryRead, settingValue}
 use Rattle.rules.specs.Replies.{reply}
 use Rattle.rules.specs.Requests.{commandOf}
@@ -84,7 +84,7 @@ unfolding only
 not-apart u f g m apart = m .1 (demand3 u (m .0) (f ∷ []) (g ∷ []) ((apart, tt), tt) _ _ (refl, refl) (refl, refl))
 
 fine : NotRefused device
-unfolding device inRange inTable errorsOk axisOk lssOk
+unfolding device inRange inTable errorsOk axisOk
 fine = (refl, refl)
 
 pub no-line-idle : NoLineIdle
