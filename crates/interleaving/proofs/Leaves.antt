@@ -44,7 +44,7 @@ use Rattle.interleaving.proofs.Members.{writesBy}
 use Rattle.interleaving.proofs.Uses.{sameChannel, objectOf, isWrite, altersOf}
 use Rattle.interleaving.specs.ReadsWrites.{journal, is}
 
--- what a change leaves: of the settings, the error list and what only a save or a load changes, all that command and numbers do not write; and LSS
+-- what a change leaves: of the settings, the error list and what only a save, a load or a store changes, all that command and numbers do not write; and LSS
 pub record Leaves (k : Command) (i s : ℕ) (e : Change) : Type 0 where
   pub running : (t : Setting) (x : Held t) → (T (writesBy k i s (objectOf t)) → ⊥) → onSetting e t x ≡ x
   pub errors : (x : ErrorList) → (T (isWrite k && is i s 0x1003 0) → ⊥) → onErrors e x ≡ x
