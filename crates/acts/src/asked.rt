@@ -1,5 +1,5 @@
 // What a request comes to: its outcome, and the step that carries it out.
-use rules::objects::Channel;
+use rules::requests::Caller;
 use rules::requests::Change;
 use rules::requests::Outcome;
 ghost use mathlib.Core.Path.{_≡_};
@@ -7,7 +7,7 @@ ghost use Rattle.acts.specs.Asked.{stepFor, askedOf};
 
 pub struct Asked {
     pub step: u8,
-    pub channel: Channel,
+    pub caller: Caller,
     pub outcome: Outcome,
 }
 
@@ -19,7 +19,9 @@ impl Asked {
 
     pub const EMPTY: u8 = 2;
 
-    pub const FILL: u8 = 3;
+    pub const CONFIGURE: u8 = 3;
+
+    pub const FILL: u8 = 4;
 }
 
 fn step_for(change: Change) -> u8
@@ -30,17 +32,18 @@ fn step_for(change: Change) -> u8
         Change::Put(_, _) => Asked::SET,
         Change::Zero(_, _, _) => Asked::SET,
         Change::Empty => Asked::EMPTY,
-        Change::Fill(_, _) => Asked::FILL,
+        Change::Configure(_) => Asked::CONFIGURE,
+        Change::Fill(_) => Asked::FILL,
     }
 }
 
-pub fn of(channel: Channel, outcome: Outcome) -> Asked
-    ensures { λ r. ⌜ r ≡ askedOf channel outcome ⌝ }
+pub fn of(caller: Caller, outcome: Outcome) -> Asked
+    ensures { λ r. ⌜ r ≡ askedOf caller outcome ⌝ }
 {
     let change = outcome.change;
     Asked {
         step: step_for(change),
-        channel,
+        caller,
         outcome,
     }
 }

@@ -6,6 +6,7 @@ use rules::events::Event;
 use rules::events::FrameHead;
 use rules::objects::Axis;
 use rules::objects::Channel;
+use rules::requests::Caller;
 use rules::states;
 ghost use mathlib.Core.Path.{_≡_};
 ghost use Rattle.acts.specs.Acts.{plain, commanding, received, actOf};
@@ -20,7 +21,7 @@ pub struct Act {
     pub axis: Axis,
     pub m: i32,
     pub network: u8,
-    pub channel: Channel,
+    pub caller: Caller,
     pub bytes: [u8; 8],
 }
 
@@ -55,7 +56,7 @@ impl Act {
             axis: Axis::X,
             m: 0,
             network,
-            channel: Channel::One,
+            caller: Caller::Client(Channel::One),
             bytes,
         }
     }
@@ -91,14 +92,14 @@ fn named(head: FrameHead, bytes: [u8; 8], length: u8, node: u8) -> Act
         Rule::Nothing => Act::stay(0, bytes),
         Rule::Network(command) => commanded(command, bytes),
         Rule::Sync => Act::plain(Act::SYNC, 0, 0, 0, bytes),
-        Rule::Request(channel) => Act {
+        Rule::Request(caller) => Act {
             step: Act::REQUEST,
             refusal: 0,
             ms: 0,
             axis: Axis::X,
             m: 0,
             network: 0,
-            channel,
+            caller,
             bytes,
         },
     }
@@ -118,7 +119,7 @@ pub fn of(event: Event, bytes: [u8; 8], length: u8, node: u8) -> Act
             axis,
             m,
             network: 0,
-            channel: Channel::One,
+            caller: Caller::Client(Channel::One),
             bytes,
         },
     }

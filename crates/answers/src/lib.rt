@@ -10,9 +10,9 @@ ghost use Rattle.rules.specs.Settings.{inTable};
 ghost use Rattle.rules.specs.Time.{whenDue};
 ghost use Rattle.answers.specs.Answers.{answering};
 use rules::events::Frame;
-use rules::objects::Channel;
 use rules::objects::PdoNumber;
 use rules::parts::Reading;
+use rules::requests::Caller;
 use rules::settings::Settings;
 use rules::states;
 
@@ -87,17 +87,17 @@ pub fn timed(
     Answer::one(pdo)
 }
 
-pub fn replied(replies: bool, channel: Channel, node: u8, bytes: [u8; 8]) -> Answer
-    ensures { λ r. ⌜ r ≡ answering 0 (cond replies (replyFrame channel node bytes ∷ []) []) ⌝ }
+pub fn replied(replies: bool, caller: Caller, node: u8, bytes: [u8; 8]) -> Answer
+    ensures { λ r. ⌜ r ≡ answering 0 (cond replies (replyFrame caller node bytes ∷ []) []) ⌝ }
 {
     if replies {
-        return Answer::one(frames::reply(channel, node, bytes));
+        return Answer::one(frames::reply(caller, node, bytes));
     }
     Answer::silent(0)
 }
 
 // Boot-up, and behind it the emergency of a spoiled journal.
-pub fn booted(node: u8, spoiled: u16) -> Answer
+pub fn booted(node: u8, spoiled: u8) -> Answer
     ensures { λ r. ⌜ r ≡ answering 0 (Network.booted node spoiled) ⌝ }
 {
     let first = frames::boot_up(node);

@@ -61,7 +61,7 @@ abbrev pub act-arm : ℕ → Name → Arm parts act
 act-arm n f = record { key = n; callee = f; ready = λ d a. ask (Ready n d a); alone = λ d a. steppedOf (does a (alone d)) }
 
 abbrev pub asked-arm : ℕ → Name → Arm parts asked
-asked-arm n f = record { key = n; callee = f; ready = λ d a. ask (Serving n d a); alone = λ d a. steppedOf (answered (a .channel) (a .outcome) (alone d)) }
+asked-arm n f = record { key = n; callee = f; ready = λ d a. ask (Serving n d a); alone = λ d a. steppedOf (answered (a .caller) (a .outcome) (alone d)) }
 
 module _ {M : Type 1} (𝓤 : URA M) (H : Heap 𝓤) (𝓜 : Model 𝓤 H) (𝓖 : GhostRules 𝓤 H) where
   pub known : Known 𝓤 H (𝓖 .A) parts
@@ -93,6 +93,6 @@ module _ {M : Type 1} (𝓤 : URA M) (H : Heap 𝓤) (𝓜 : Model 𝓤 H) (𝓖
 
     pub asked-serves : (P : Device → List ℕ → Asked → Type 0) → Triple 𝓤 (𝓡 .run r) (Alone parts asked (asked-arm n f) 𝓤 H (𝓖 .A))
         → ((d : Device) (j : List ℕ) (a : Asked) → P d j a → a .step ≡ n → Serving n d a)
-        → ((d : Device) (j : List ℕ) (a : Asked) → P d j a → a .step ≡ n → (steppedOf (answered (a .channel) (a .outcome) (alone d)) ≡ askedStep d j a) × (j ≡ askedJournal d j a))
+        → ((d : Device) (j : List ℕ) (a : Asked) → P d j a → a .step ≡ n → (steppedOf (answered (a .caller) (a .outcome) (alone d)) ≡ askedStep d j a) × (j ≡ askedJournal d j a))
         → Serves parts asked (asked-promise P) 𝓤 H (𝓖 .A) (tables 𝓤 H 𝓜 𝓡 env .C) (asked-arm n f)
     asked-serves P met readies agrees = record { met = cited 𝓤 H (Alone parts asked (asked-arm n f) 𝓤 H (𝓖 .A)) 𝓜 𝓡 env f _ at met; readies = readies; agrees = agrees }

@@ -36,10 +36,10 @@ ActDone d j a r d′ j′ = (r ≡ actStep d j a .answer) × (d′ ≡ actStep d
 
 -- and after a request
 unfoldable pub askedStep : Device → List ℕ → Asked → Stepped
-askedStep d j a = steppedOf (answered (a .channel) (a .outcome) (seen d j))
+askedStep d j a = steppedOf (answered (a .caller) (a .outcome) (seen d j))
 
 unfoldable pub askedJournal : Device → List ℕ → Asked → List ℕ
-askedJournal d j a = answered (a .channel) (a .outcome) (seen d j) .state .journal
+askedJournal d j a = answered (a .caller) (a .outcome) (seen d j) .state .journal
 
 abbrev pub AskedDone : Device → List ℕ → Asked → Answer → Device → List ℕ → Type 0
 AskedDone d j a r d′ j′ = (r ≡ askedStep d j a .answer) × (d′ ≡ askedStep d j a .device) × (j′ ≡ askedJournal d j a)
@@ -60,4 +60,4 @@ Requests d j a = Requesting d (length j) a
 
 -- what a request comes to carries it out, whatever the journal of that length holds
 abbrev pub Asks : Device → ℕ → Act → Asked → Type 0
-Asks d size act a = (j : List ℕ) → length j ≡ size → (answered (a .channel) (a .outcome) (seen d j) ≡ does act (seen d j)) × Asking d j a
+Asks d size act a = (j : List ℕ) → length j ≡ size → (answered (a .caller) (a .outcome) (seen d j) ≡ does act (seen d j)) × Asking d j a

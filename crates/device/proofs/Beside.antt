@@ -1,4 +1,4 @@
--- The journal beside the record: what an event does to the record does not depend on it, and none but a save or a load touches it.
+-- The journal beside the record: what an event does to the record does not depend on it, and none but a save, a load or a store touches it.
 use mathlib.Core.Path.{_≡_, refl, sym, _∙_}
 use mathlib.Core.List.{List}
 use Prim.Native.Nat.{ℕ}

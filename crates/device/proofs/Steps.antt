@@ -41,7 +41,7 @@ module _ (d : Device) (j : List ℕ) (a : Act) where
   pub communicate-alone : a .step ≡ 7 → Beside j (does a (seen d j)) (does a (alone d))
   communicate-alone p = rw p (record { same = refl; kept = refl })
 
-  pub requests : (size : ℕ) → Requesting d size a → does a (seen d j) ≡ requested (a .channel) (a .bytes) (seen d j)
+  pub requests : (size : ℕ) → Requesting d size a → does a (seen d j) ≡ requested (a .caller) (a .bytes) (seen d j)
   requests size l =
       simp (
         ne-eqb _ 0 (l .not-stay),

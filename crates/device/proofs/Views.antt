@@ -2,6 +2,7 @@
 use mathlib.Core.Path.{_≡_, refl, ap}
 use mathlib.Core.List.{List}
 use Prim.Native.Nat.{ℕ}
+use lib.ListN.{getD}
 use Rattle.rules.specs.declared.objects.Axis.the-variants.{X, Y}
 use Rattle.rules.specs.declared.objects.Channel.{Channel}
 use Rattle.rules.specs.declared.objects.Channel.the-variants.{One, Two}
@@ -13,6 +14,7 @@ use Rattle.rules.specs.declared.objects.Setting.{Setting}
 use Rattle.rules.specs.declared.objects.Setting.the-variants.{Heartbeat, Pdo, Resolution, Operating, Preset, Offset, Differential}
 use Rattle.rules.specs.declared.requests.Command.{Command}
 use Rattle.rules.specs.declared.requests.Command.the-variants.{Write, Read, Segment, End, Unknown}
+use Rattle.rules.specs.Lss.{lssCommandOf, onLssCommand, lssOutcome}
 use Rattle.rules.specs.Objects.{rowOf, objectAt}
 use Rattle.rules.specs.Reads.{readOf}
 use Rattle.rules.specs.Requests.{command, indexOf, subindexOf, valueFor}
@@ -21,6 +23,8 @@ use Rattle.rules.specs.State.{State, transferOf}
 use Rattle.rules.specs.Writes.{WriteRow, _then_, unless, lengthCheck, settingWrite, writeOf}
 use Rattle.view.specs.Seen as view
 use Rattle.device.specs.declared.Device.{Device}
+use Rattle.rules.specs.declared.requests.LssCommand.{LssCommand}
+use Rattle.rules.specs.declared.requests.LssCommand.the-variants.{Switch, Select, SetNode, StoreNode, TellIdentity, TellNode, Unheard}
 use Rattle.device.specs.Seen.{seen}
 use Rattle.device.specs.Views.{viewOf}
 
@@ -85,3 +89,17 @@ module _ (c : Channel) (request : List ℕ) (d : Device) (j : List ℕ) where
 
   pub outcome-alike : outcome c request (view.viewed (viewOf c d)) ≡ outcome c request (seen d j)
   outcome-alike = rw (command-alike (command request) (objectAt (indexOf request) (subindexOf request)), transfer-alike c d j)
+
+-- and so does LSS, for which either channel's view will do
+module _ (request : List ℕ) (d : Device) (j : List ℕ) where
+  lss-command-alike : (k : LssCommand) → onLssCommand k request (view.viewed (viewOf One d)) ≡ onLssCommand k request (seen d j)
+  lss-command-alike Switch = refl
+  lss-command-alike (Select p) = refl
+  lss-command-alike SetNode = refl
+  lss-command-alike StoreNode = refl
+  lss-command-alike (TellIdentity p) = refl
+  lss-command-alike TellNode = refl
+  lss-command-alike Unheard = refl
+
+  pub lss-alike : lssOutcome request (view.viewed (viewOf One d)) ≡ lssOutcome request (seen d j)
+  lss-alike = rw (lss-command-alike (lssCommandOf (getD request 0 0)))

@@ -49,3 +49,4 @@ pub record Filling (d : Device) (j : List ℕ) (a : Asked) : Type 0 where
   pub not-keep : a .step ≡ 0 → ⊥
   pub not-set : a .step ≡ 1 → ⊥
   pub not-empty : a .step ≡ 2 → ⊥
+  pub not-configure : a .step ≡ 3 → ⊥

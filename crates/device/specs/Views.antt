@@ -10,6 +10,7 @@ viewOf c d = record {
   node = d .node;
   identity = d .identity;
   network = d .network;
+  lss = d .lss;
   blocks = d .saves .blocks;
   filled = d .saves .filled;
   spoiled = d .saves .spoiled;

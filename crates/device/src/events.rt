@@ -24,11 +24,12 @@ impl Device {
             Asked::KEEP => self.keep(asked),
             Asked::SET => self.set(asked),
             Asked::EMPTY => self.empty(asked),
+            Asked::CONFIGURE => self.configure(asked),
             _ => self.fill(journal, asked),
         }
     }
 
-    // The record goes in by value and comes back, with the frames; the lent journal is written by a save or a load alone.
+    // The record goes in by value and comes back, with the frames; the lent journal is written by a save, a load or a store alone.
     pub fn event(self, journal: &mut [u8], event: Event, bytes: [u8; 8], length: u8) -> Stepped
         ensures { λ r. ⌜ Answered self (now (journal .entry)) event bytes length r (now (journal .exit)) ⌝ }
     {

@@ -9,6 +9,7 @@ use acts::Act;
 use answers::Answer;
 use rules::errors::ErrorList;
 use rules::parts::Identity;
+use rules::parts::Lss;
 use rules::parts::PdoCounts;
 use rules::parts::Reading;
 use rules::parts::Saves;
@@ -32,6 +33,7 @@ pub struct Device {
     pub saves: Saves,
     pub running: Settings,
     pub errors: ErrorList,
+    pub lss: Lss,
     pub node: u8,
     pub network: u8,
     pub transfers: [Transfer; 2],

@@ -21,7 +21,7 @@ ghost use Rattle.device.specs.Seen.{alone};
 const SPOILED: u16 = 0xFF00;
 
 // The list as power-on and 81h leave it.
-fn first_errors(spoiled: u16) -> ErrorList
+fn first_errors(spoiled: u8) -> ErrorList
     ensures { λ r. ⌜ r ≡ cond (eqb spoiled 0) noErrors (entered 0xFF00 noErrors) ⌝ }
 {
     if spoiled == 0 {
@@ -32,9 +32,9 @@ fn first_errors(spoiled: u16) -> ErrorList
 }
 
 impl Device {
-    // As power-on and 81h leave it.
-    pub fn start(node: u8, identity: Identity, saves: Saves) -> Stepped
-        ensures { λ r. ⌜ r ≡ steppedOf (Network.start node identity saves []) ⌝ }
+    // As power-on and 81h leave it, with a number set or 0.
+    pub fn start(node: u8, identity: Identity, saves: Saves, set: u8) -> Stepped
+        ensures { λ r. ⌜ r ≡ steppedOf (Network.start node identity saves set []) ⌝ }
     {
         let stored = saves.stored;
         let device = Device {
@@ -46,6 +46,7 @@ impl Device {
             saves,
             running: stored,
             errors: first_errors(saves.spoiled),
+            lss: lss::unselected(set),
             node,
             network: states::PRE_OPERATIONAL,
             transfers: service::no_transfers(),
@@ -75,15 +76,21 @@ impl Device {
         self.quiet(0)
     }
 
-    // 81h.
+    // 81h: the number set takes effect.
     pub fn reset(self, act: Act) -> Stepped
         requires { ⌜ Ready 6 self act ⌝ }
         ensures { λ r. ⌜ r ≡ steppedOf (does act (alone self)) ⌝ }
     {
-        Device::start(self.node, self.identity, self.saves)
+        let set = self.lss.node;
+        Device::start(
+            lss::node_else(set, self.node),
+            self.identity,
+            self.saves,
+            set,
+        )
     }
 
-    // 82h: 1017 and 1800 from the stored settings.
+    // 82h: 1017 and 1800 from the stored settings, and the number set.
     pub fn communicate(mut self, act: Act) -> Stepped
         requires { ⌜ Ready 7 self act ⌝ }
         ensures { λ r. ⌜ r ≡ steppedOf (does act (alone self)) ⌝ }
@@ -93,6 +100,9 @@ impl Device {
         running.heartbeat = self.saves.stored.heartbeat;
         running.pdo = pdo;
         self.running = running;
+        let set = self.lss.node;
+        self.node = lss::node_else(set, self.node);
+        self.lss = lss::unselected(set);
         self.network = states::PRE_OPERATIONAL;
         self.heartbeat = 0;
         self.pdo = timers::no_counts();

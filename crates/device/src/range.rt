@@ -28,7 +28,9 @@ impl Device {
         if !ranges::errors_ok(self.errors) {
             return OUT_OF_RANGE;
         }
-        if !(ranges::own_node_ok(self.node) & ranges::network_ok(self.network)) {
+        if !(ranges::own_node_ok(self.node)
+            & ranges::network_ok(self.network)
+            & ranges::lss_ok(self.lss)) {
             return OUT_OF_RANGE;
         }
         if !(ranges::elapsed_ok(self.running.heartbeat, self.heartbeat)

@@ -4,7 +4,7 @@ ghost use mathlib.Core.Bool.{true, cond};
 ghost use Prim.Native.Nat.{_≤_};
 ghost use Rattle.rules.specs.Errors;
 ghost use Rattle.rules.specs.Frames;
-ghost use Rattle.rules.specs.Frames.{noFrame, bootUpFrame, pdoAt, pdoFrame, replyFrame, requestsAt, repliesAt};
+ghost use Rattle.rules.specs.Frames.{noFrame, bootUpFrame, pdoAt, pdoFrame, replyFrame, requestsAt, repliesAt, replyAt};
 ghost use Rattle.rules.specs.declared.objects.Setting.the-variants.{Resolution};
 ghost use Rattle.rules.specs.Angle.{shown};
 ghost use Rattle.rules.specs.Numbers.{unsigned};
@@ -14,6 +14,7 @@ use rules::events::Frame;
 use rules::objects::Channel;
 use rules::objects::PdoNumber;
 use rules::parts::Reading;
+use rules::requests::Caller;
 use rules::settings::AxisSettings;
 use rules::settings::Settings;
 use rules::states;
@@ -21,6 +22,8 @@ use rules::states;
 const HEARTBEAT_AT: u16 = 0x700;
 
 const EMERGENCY_AT: u16 = 0x80;
+
+const LSS_REPLY_AT: u16 = 0x7E4;
 
 // The most bytes of a frame.
 const MOST_BYTES: u16 = 8;
@@ -119,12 +122,21 @@ pub fn replies_at(channel: Channel) -> u16
     }
 }
 
-pub fn reply(channel: Channel, node: u8, bytes: [u8; 8]) -> Frame
-    ensures { λ r. ⌜ r ≡ replyFrame channel node bytes ⌝ }
+// Where a reply goes: LSS has one place for every node.
+fn reply_at(caller: Caller, node: u8) -> u16
+    ensures { λ r. ⌜ r ≡ replyAt caller node ⌝ }
 {
-    let identifier = replies_at(channel) + (node as u16);
+    match caller {
+        Caller::Client(channel) => replies_at(channel) + (node as u16),
+        Caller::Master => LSS_REPLY_AT,
+    }
+}
+
+pub fn reply(caller: Caller, node: u8, bytes: [u8; 8]) -> Frame
+    ensures { λ r. ⌜ r ≡ replyFrame caller node bytes ⌝ }
+{
     Frame {
-        identifier,
+        identifier: reply_at(caller, node),
         length: MOST_BYTES,
         bytes,
     }
@@ -138,7 +150,7 @@ fn bit(set: bool, value: u8) -> u8
 }
 
 // Bit 7 is the journal's, bit 5 the axes', bit 0 is set with either.
-pub fn register(spoiled: u16, x: u32, y: u32) -> u8
+pub fn register(spoiled: u8, x: u32, y: u32) -> u8
     ensures { λ r. ⌜ r ≡ Errors.register spoiled x y ⌝ }
 {
     let bad = spoiled != 0;

@@ -13,6 +13,7 @@ use Rattle.rules.specs.declared.objects.PdoNumber.{PdoNumber}
 use Rattle.rules.specs.declared.objects.PdoNumber.the-variants.{First}
 use Rattle.rules.specs.declared.objects.Setting.{Setting}
 use Rattle.rules.specs.declared.parts.Identity.{Identity}
+use Rattle.rules.specs.declared.parts.Lss.{Lss}
 use Rattle.rules.specs.declared.parts.PdoCounts.{PdoCounts}
 use Rattle.rules.specs.declared.parts.Reading.{Reading}
 use Rattle.rules.specs.declared.parts.Transfer.{Transfer}
@@ -36,6 +37,7 @@ pub data Cell : Type 0 where
   pdo : PdoNumber → Cell
   transfer : Channel → Cell
   axis : Axis → Cell
+  lss : Cell
   rest : Cell
 
 abbrev pub Content : Cell → Type 0
@@ -46,6 +48,7 @@ Content heartbeat = ℕ
 Content (pdo n) = PdoCounts
 Content (transfer c) = Transfer
 Content (axis a) = Reading
+Content lss = Lss
 Content rest = Rest
 
 abbrev pub get : (k : Cell) → State → Content k
@@ -56,6 +59,7 @@ get heartbeat u = u .heartbeat
 get (pdo n) u = pdoCounts n u
 get (transfer c) u = transferOf c u
 get (axis a) u = reading a u
+get lss u = u .lss
 get rest u = record {
   node = u .node;
   identity = u .identity;
@@ -70,7 +74,8 @@ stateOf f = record {
   node = f rest .node;
   identity = f rest .identity;
   network = f rest .network;
-  saves = record { blocks = f rest .blocks; filled = f kept .filled; spoiled = f rest .spoiled; stored = f kept .stored };
+  lss = f lss;
+  saves = record { blocks = f rest .blocks; filled = f kept .filled; spoiled = f rest .spoiled; node = f kept .node; stored = f kept .stored };
   running = settingsOf (λ s. f (running s));
   errors = f errors;
   heartbeat = f heartbeat;
@@ -92,6 +97,7 @@ get-of f (transfer One) = refl
 get-of f (transfer Two) = refl
 get-of f (axis X) = refl
 get-of f (axis Y) = refl
+get-of f lss = refl
 get-of f rest = refl
 
 -- and the same cells make the same state

@@ -10,7 +10,8 @@ use Rattle.rules.proofs.Frames.{request-received}
 use Rattle.rules.proofs.Stays.{event-stays}
 use Rattle.rules.specs.declared.objects.Channel.{Channel}
 use Rattle.rules.specs.declared.objects.Channel.the-variants.{One, Two}
-use Rattle.rules.specs.Events.{onService, NotRefused, event}
+use Rattle.rules.specs.declared.requests.Caller.the-variants.{Client}
+use Rattle.rules.specs.Events.{onRequest, NotRefused, event}
 use Rattle.rules.specs.Results.{Result, ignored, refused}
 use Rattle.rules.specs.State.{State}
 use Rattle.interleaving.proofs.Sorted.{does, next, answer, endIn, answersIn, any-order}
@@ -19,9 +20,9 @@ use Rattle.interleaving.specs.Runs.{RunFrame, Turn, turn, add, result, e
 
 -- by the remote mark and the length
 served : (c : Channel) (remote : Bool) (bytes : List ℕ) (n : ℕ) (u : State) (short whole : Bool) → leb n 8 ≡ short → eqb n 8 ≡ whole →
-    cond short (cond remote (ignored u) (onService c bytes n u)) (refused 2 u) ≡
+    cond short (cond remote (ignored u) (onRequest (Client c) bytes n u)) (refused 2 u) ≡
     does (not remote && whole) c (record { remote = remote; bytes = bytes; length = n }) u
-unfolding onService
+unfolding onRequest
 served c true bytes n u true whole p q = rw p
 served c true bytes n u false whole p q = rw p
 served c false bytes n u true true p q = rw q

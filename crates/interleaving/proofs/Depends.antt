@@ -8,6 +8,8 @@ use Rattle.laws.proofs.Bools.{or-left, or-right}
 use Rattle.rules.proofs.BySetting.{settingsOf}
 use Rattle.rules.proofs.EachOutcome.{each-outcome}
 use Rattle.rules.proofs.Named.{Names, named}
+use Rattle.rules.specs.declared.journal.Origin.{Origin}
+use Rattle.rules.specs.declared.journal.Origin.the-variants.{Saved, Loaded}
 use Rattle.rules.specs.declared.objects.Axis.{Axis}
 use Rattle.rules.specs.declared.objects.Axis.the-variants.{X, Y}
 use Rattle.rules.specs.declared.objects.Channel.{Channel}
@@ -27,15 +29,14 @@ use Rattle.rules.specs.declared.requests.Got.the-variants.{Number}
 use Rattle.rules.specs.declared.requests.Outcome.{Outcome}
 use Rattle.rules.specs.declared.requests.Zeroed.{Zeroed}
 use Rattle.rules.specs.declared.requests.Zeroed.the-variants.{To, Refused}
-use Rattle.rules.specs.declared.settings.Settings.{Settings}
-use Rattle.rules.specs.Block.{saveKind, loadKind}
 use Rattle.rules.specs.Objects.{rowOf, settingRow, objectAt}
 use Rattle.rules.specs.Reads.{readOf, settingValue}
 use Rattle.rules.specs.Requests.{command, indexOf, subindexOf, valueFor}
-use Rattle.rules.specs.Service.{onWrite, onCommand, onRead, onSegment, outcome, served, silent, stores}
+use Rattle.rules.specs.Service.{onWrite, onCommand, onRead, onSegment, outcome, served, silent}
 use Rattle.rules.specs.Settings.{factory}
 use Rattle.rules.specs.State.{State}
 use Rattle.rules.specs.Writes.{WriteRow, _then_, unless, lengthCheck, pdoAccepts, valueWrite, roomCheck, fillWrite, zeroedBy, zeroChange, presetWrite, settingWrite, writeOf, change}
+use Rattle.interleaving.proofs.Acts.{beside}
 use Rattle.interleaving.proofs.Cells.{Cell, running, errors, kept, transfer, axis, rest, get}
 use Rattle.interleaving.proofs.Members.{covers, readsBy, writesBy, its-own}
 use Rattle.interleaving.proofs.Uses.{names, uses, usesOf}
@@ -130,12 +131,12 @@ module _ (c : Channel) (u w : State) where
     save-uses (Differential X) = tt
     save-uses (Differential Y) = tt
 
-    -- a save and a load, by their signature and kind
-    fill-alike : (signature : Bool) (kind : ℕ) → get rest u ≡ get rest w → get kept u ≡ get kept w → fillWrite signature kind u ≡ fillWrite signature kind w
-    fill-alike signature kind t k = λ i. record {
+    -- a save and a load, by their signature and what their block comes from
+    fill-alike : (signature : Bool) (from : Channel → Origin) → get rest u ≡ get rest w → get kept u ≡ get kept w → fillWrite signature from u ≡ fillWrite signature from w
+    fill-alike signature from t k = λ i. record {
       value = unless signature 0x08000020;
       state = roomCheck (t i .spoiled) (k i .filled) (t i .blocks);
-      change = λ c. Fill c kind;
+      change = λ c. Fill (from c);
     }
 
     write-alike : (o : Object) (v : ℕ) → For (Write given) o → writeOf o v u ≡ writeOf o v w
@@ -143,27 +144,27 @@ module _ (c : Channel) (u w : State) where
     write-alike ErrorCount v h = refl
     write-alike (ErrorEntry n) v h = refl
     write-alike Name v h = refl
-    write-alike Save v h = fill-alike (eqb v 0x65766173) saveKind (h rest tt) (h kept tt)
-    write-alike Load v h = fill-alike (eqb v 0x64616F6C) loadKind (h rest tt) (h kept tt)
+    write-alike Save v h = fill-alike (eqb v 0x65766173) Saved (h rest tt) (h kept tt)
+    write-alike Load v h = fill-alike (eqb v 0x64616F6C) Loaded (h rest tt) (h kept tt)
     write-alike Filled v h = refl
     write-alike (Angle a) v h = refl
     write-alike (Of s) v h = setting-alike s v h
 
-    -- the settings beside a change: a save's are the running ones, and no other change stores what runs
-    zero-stores : (a : Axis) (v : ℕ) (z : Zeroed) (t : Settings) → stores (zeroChange a v z) t ≡ factory
-    zero-stores a v (To offset) t = refl
-    zero-stores a v (Refused code) t = refl
+    -- the settings beside a change: a save's are the running ones, and no other change of a request's stores what runs or was stored
+    zero-stores : (a : Axis) (v : ℕ) (z : Zeroed) (y : State) → beside (zeroChange a v z) y ≡ factory
+    zero-stores a v (To offset) y = refl
+    zero-stores a v (Refused code) y = refl
 
-    setting-stores : (s : Setting) (v : ℕ) (z : State) (t : Settings) → stores (settingWrite s v z .change c) t ≡ factory
-    setting-stores Heartbeat v z t = refl
-    setting-stores (Pdo n p) v z t = refl
-    setting-stores Resolution v z t = refl
-    setting-stores (Operating a) v z t = refl
-    setting-stores (Preset a) v z t = zero-stores a v (zeroedBy a v z) t
-    setting-stores (Offset a) v z t = refl
-    setting-stores (Differential a) v z t = refl
+    setting-stores : (s : Setting) (v : ℕ) (z y : State) → beside (settingWrite s v z .change c) y ≡ factory
+    setting-stores Heartbeat v z y = refl
+    setting-stores (Pdo n p) v z y = refl
+    setting-stores Resolution v z y = refl
+    setting-stores (Operating a) v z y = refl
+    setting-stores (Preset a) v z y = zero-stores a v (zeroedBy a v z) y
+    setting-stores (Offset a) v z y = refl
+    setting-stores (Differential a) v z y = refl
 
-    change-stores : (o : Object) (v : ℕ) (z : State) → For (Write given) o → stores (change c o v z) (u .running) ≡ stores (change c o v z) (w .running)
+    change-stores : (o : Object) (v : ℕ) (z : State) → For (Write given) o → beside (change c o v z) u ≡ beside (change c o v z) w
     change-stores (Const f) v z h = refl
     change-stores ErrorCount v z h = refl
     change-stores (ErrorEntry n) v z h = refl
@@ -172,7 +173,7 @@ module _ (c : Channel) (u w : State) where
     change-stores Load v z h = refl
     change-stores Filled v z h = refl
     change-stores (Angle a) v z h = refl
-    change-stores (Of s) v z h = setting-stores s v z (u .running) ∙ sym (setting-stores s v z (w .running))
+    change-stores (Of s) v z h = setting-stores s v z u ∙ sym (setting-stores s v z w)
 
   command-alike : (request : List ℕ) (k : Command) (i s : ℕ) (f : Found) → Names f i s → Alike c k i s u w → onCommand c request k f u ≡ onCommand c request k f w
   command-alike request (Write given) i s (At o) n h =
@@ -205,9 +206,9 @@ outcome-alike c request u w h =
 
 -- and so do the settings beside its change
 pub stores-alike : (c : Channel) (request : List ℕ) (u w : State) → ((cell : Cell) → T (usesOf c request cell) → get cell u ≡ get cell w)
-    → stores (outcome c request u .change) (u .running) ≡ stores (outcome c request w .change) (w .running)
+    → beside (outcome c request u .change) u ≡ beside (outcome c request w .change) w
 stores-alike c request u w h =
-    each-outcome c request u (λ (o : Outcome). stores (o .change) (u .running) ≡ stores (o .change) (w .running))
+    each-outcome c request u (λ (o : Outcome). beside (o .change) u ≡ beside (o .change) w)
     (record {
       aborted = λ code. refl;
       wrote = λ given o p q e. change-stores c u w given o (valueFor o request) u (its given o p q);
@@ -220,7 +221,7 @@ stores-alike c request u w h =
       ended = refl;
       unserved = refl;
     })
-    ∙ ap (λ (o : Outcome). stores (o .change) (w .running)) (outcome-alike c request u w h)
+    ∙ ap (λ (o : Outcome). beside (o .change) w) (outcome-alike c request u w h)
   where
     its : (given : ℕ) (o : Object) → command request ≡ Write given → objectAt (indexOf request) (subindexOf request) ≡ At o → For c u w (Write given) o
     its given o p q =

@@ -11,17 +11,18 @@ use Rattle.rules.specs.declared.objects.PdoNumber.{PdoNumber}
 use Rattle.rules.specs.declared.parts.PdoCounts.{PdoCounts}
 use Rattle.rules.specs.declared.objects.Setting.{Setting}
 use Rattle.rules.specs.declared.objects.Setting.the-variants.{Heartbeat}
+use Rattle.rules.specs.declared.requests.Caller.the-variants.{Client}
 use Rattle.rules.specs.declared.requests.Change.{Change}
-use Rattle.rules.specs.declared.requests.Change.the-variants.{Keep, Put, Zero, Empty, Fill}
+use Rattle.rules.specs.declared.requests.Change.the-variants.{Keep, Put, Zero, Empty, Configure, Fill}
 use Rattle.rules.specs.declared.requests.Command.{Command}
 use Rattle.rules.specs.declared.requests.Command.the-variants.{Write, Read, Segment, End, Unknown}
 use Rattle.rules.specs.declared.settings.Settings.{Settings}
 use Rattle.rules.specs.Objects.{sameSetting, ofPdo}
 use Rattle.rules.specs.Requests.{command, indexOf, subindexOf}
-use Rattle.rules.specs.Service.{outcome, stores, onHeartbeat, onCounts, stateAfter}
+use Rattle.rules.specs.Service.{outcome, onHeartbeat, onCounts, stateAfter}
 use Rattle.rules.specs.State.{State, noCounts}
-use Rattle.interleaving.proofs.Acts.{act, after-acts}
-use Rattle.interleaving.proofs.Cells.{Cell, running, errors, kept, heartbeat, pdo, transfer, axis, rest, Content, get, stateOf, get-of, of-same}
+use Rattle.interleaving.proofs.Acts.{beside, act, after-acts}
+use Rattle.interleaving.proofs.Cells.{Cell, running, errors, kept, heartbeat, pdo, transfer, axis, lss, rest, Content, get, stateOf, get-of, of-same}
 use Rattle.interleaving.proofs.Depends.{own, outcome-alike, stores-alike}
 use Rattle.interleaving.proofs.Leaves.{outcome-left}
 use Rattle.interleaving.proofs.Members.{covers, writesBy, reads, writes, never-meet}
@@ -61,7 +62,8 @@ zeroes told Keep = false
 zeroes told (Put s v) = told s
 zeroes told (Zero a preset offset) = false
 zeroes told Empty = false
-zeroes told (Fill c kind) = false
+zeroes told (Configure l) = false
+zeroes told (Fill o) = false
 
 abbrev isHeartbeat : Setting → Bool
 isHeartbeat s = sameSetting s Heartbeat
@@ -71,14 +73,16 @@ heartbeat-is Keep x = refl
 heartbeat-is (Put s v) x = refl
 heartbeat-is (Zero a preset offset) x = refl
 heartbeat-is Empty x = refl
-heartbeat-is (Fill c kind) x = refl
+heartbeat-is (Configure l) x = refl
+heartbeat-is (Fill o) x = refl
 
 pdo-is : (n : PdoNumber) (e : Change) (x : PdoCounts) → onCounts n e x ≡ cond (zeroes (ofPdo n) e) noCounts x
 pdo-is n Keep x = refl
 pdo-is n (Put s v) x = refl
 pdo-is n (Zero a preset offset) x = refl
 pdo-is n Empty x = refl
-pdo-is n (Fill c kind) x = refl
+pdo-is n (Configure l) x = refl
+pdo-is n (Fill o) x = refl
 
 zeroed-twice : {A : Type 0} (p q : Bool) (zero x : A) → cond p zero (cond q zero x) ≡ cond q zero (cond p zero x)
 zeroed-twice true true zero x = refl
@@ -94,7 +98,7 @@ pdo-swaps n e f x = simp (pdo-is n) (zeroed-twice (zeroes (ofPdo n) e) (zeroes (
 
 -- the state after a request on a channel
 abbrev pub next : Channel → List ℕ → State → State
-next c request u = stateAfter c (outcome c request u) u
+next c request u = stateAfter (Client c) (outcome c request u) u
 
 module _ (c d : Channel) (two : T (sameChannel c d) → ⊥) (a b : List ℕ) (clear : Clear a b) where
   -- what b on d uses, a on c does not alter
@@ -110,15 +114,16 @@ module _ (c d : Channel) (two : T (sameChannel c d) → ⊥) (a b : List ℕ) (c
   no-meeting (pdo n) p q = p
   no-meeting (transfer e) p q = two-transfers c d e two p q
   no-meeting (axis a) p q = q
+  no-meeting lss p q = q
   no-meeting rest p q = q
 
   module _ (u : State) where
     -- the settings beside each one's change
     abbrev mine : Settings
-    mine = stores (outcome c a u .change) (u .running)
+    mine = beside (outcome c a u .change) u
 
     abbrev other : Settings
-    other = stores (outcome d b u .change) (u .running)
+    other = beside (outcome d b u .change) u
 
     abbrev first : (k : Cell) → Content k → Content k
     first = act c (outcome c a u) mine
@@ -137,7 +142,7 @@ module _ (c d : Channel) (two : T (sameChannel c d) → ⊥) (a b : List ℕ) (c
     pub outcome-past : outcome d b (next c a u) ≡ outcome d b u
     outcome-past = outcome-alike d b (next c a u) u unaltered
 
-    stores-past : stores (outcome d b (next c a u) .change) (next c a u .running) ≡ other
+    stores-past : beside (outcome d b (next c a u) .change) (next c a u) ≡ other
     stores-past = stores-alike d b (next c a u) u unaltered
 
     -- a cell that is no count is altered by one of the two at most
@@ -158,6 +163,7 @@ module _ (c d : Channel) (two : T (sameChannel c d) → ⊥) (a b : List ℕ) (c
     swaps (pdo n) x = pdo-swaps n (outcome d b u .change) (outcome c a u .change) x
     swaps (transfer e) x = one-alters (transfer e) x (no-meeting (transfer e)) _ refl
     swaps (axis a) x = refl
+    swaps lss x = one-alters lss x (no-meeting lss) _ refl
     swaps rest x = refl
 
     -- the state after both, by what each does alone

@@ -9,6 +9,8 @@ use Rattle.rules.proofs.BySetting.{valued, zeroedAt, onSetting}
 use Rattle.rules.proofs.EachOutcome.{each-outcome}
 use Rattle.rules.proofs.Named.{Names, named}
 use Rattle.rules.specs.declared.errors.ErrorList.{ErrorList}
+use Rattle.rules.specs.declared.journal.Origin.{Origin}
+use Rattle.rules.specs.declared.journal.Origin.the-variants.{Saved, Loaded}
 use Rattle.rules.specs.declared.objects.Axis.{Axis}
 use Rattle.rules.specs.declared.objects.Axis.the-variants.{X, Y}
 use Rattle.rules.specs.declared.objects.Channel.{Channel}
@@ -19,7 +21,9 @@ use Rattle.rules.specs.declared.objects.Object.{Object}
 use Rattle.rules.specs.declared.objects.Object.the-variants.{Const, ErrorCount, ErrorEntry, Name, Save, Load, Filled, Angle, Of}
 use Rattle.rules.specs.declared.objects.Setting.{Setting}
 use Rattle.rules.specs.declared.objects.Setting.the-variants.{Heartbeat, Pdo, Resolution, Operating, Preset, Offset, Differential}
+use Rattle.rules.specs.declared.parts.Lss.{Lss}
 use Rattle.rules.specs.declared.parts.Transfer.{Transfer}
+use Rattle.rules.specs.declared.requests.Caller.the-variants.{Client}
 use Rattle.rules.specs.declared.requests.Change.{Change}
 use Rattle.rules.specs.declared.requests.Change.the-variants.{Keep, Put, Fill}
 use Rattle.rules.specs.declared.requests.Command.{Command}
@@ -27,28 +31,28 @@ use Rattle.rules.specs.declared.requests.Command.the-variants.{Write}
 use Rattle.rules.specs.declared.requests.Zeroed.{Zeroed}
 use Rattle.rules.specs.declared.requests.Zeroed.the-variants.{To, Refused}
 use Rattle.rules.specs.declared.settings.Settings.{Settings}
-use Rattle.rules.specs.Block.{saveKind, loadKind}
 use Rattle.rules.specs.Numbers.{signed}
 use Rattle.rules.specs.Objects.{sameSetting, settingRow, rowOf, objectAt}
 use Rattle.rules.specs.Requests.{command, indexOf, subindexOf, valueFor}
-use Rattle.rules.specs.Service.{Kept, outcome, onErrors, onKept, onTransfer}
+use Rattle.rules.specs.Service.{Kept, outcome, onErrors, onKept, onLss, onTransfer}
 use Rattle.rules.specs.Settings.{Held}
 use Rattle.rules.specs.State.{State}
 use Rattle.rules.specs.Writes.{zeroedBy, zeroChange, settingWrite, change}
 use Rattle.interleaving.proofs.Acts.{act}
-use Rattle.interleaving.proofs.Cells.{Cell, running, errors, kept, heartbeat, pdo, transfer, axis, rest, Content}
+use Rattle.interleaving.proofs.Cells.{Cell, running, errors, kept, heartbeat, pdo, transfer, axis, lss, rest, Content}
 use Rattle.interleaving.proofs.Members.{writesBy}
 use Rattle.interleaving.proofs.Uses.{sameChannel, objectOf, isWrite, altersOf}
 use Rattle.interleaving.specs.ReadsWrites.{journal, is}
 
--- what a change leaves: of the settings, the error list and what only a save or a load changes, all that command and numbers do not write
+-- what a change leaves: of the settings, the error list and what only a save, a load or a store changes, all that command and numbers do not write; and LSS
 pub record Leaves (k : Command) (i s : ℕ) (e : Change) : Type 0 where
   pub running : (t : Setting) (x : Held t) → (T (writesBy k i s (objectOf t)) → ⊥) → onSetting e t x ≡ x
   pub errors : (x : ErrorList) → (T (isWrite k && is i s 0x1003 0) → ⊥) → onErrors e x ≡ x
   pub kept : (t : Settings) (x : Kept) → (T (writesBy k i s journal) → ⊥) → onKept e t x ≡ x
+  pub lss : (x : Lss) → onLss e x ≡ x
 
 keep-leaves : (k : Command) (i s : ℕ) → Leaves k i s Keep
-keep-leaves k i s = record { running = λ t x h. refl; errors = λ x h. refl; kept = λ t x h. refl }
+keep-leaves k i s = record { running = λ t x h. refl; errors = λ x h. refl; kept = λ t x h. refl; lss = λ x. refl }
 
 module _ (given : ℕ) where
   abbrev Written : Object → Change → Type 0
@@ -60,6 +64,7 @@ module _ (given : ℕ) where
     running = λ t x h. unless t x (sameSetting t s) _ h;
     errors = λ x h. refl;
     kept = λ t x h. refl;
+    lss = λ x. refl;
   }
     where
       unless : (t : Setting) (x : Held t) (a b : Bool) → (T (a || b) → ⊥) → cond a (valued t v) x ≡ x
@@ -84,7 +89,7 @@ module _ (given : ℕ) where
   zero-leaves a preset offset (Differential b) x h = refl
 
   preset-leaves : (a : Axis) (v : ℕ) (z : Zeroed) → Written (Of (Preset a)) (zeroChange a v z)
-  preset-leaves a v (To offset) = record { running = zero-leaves a (signed 16 v) offset; errors = λ x h. refl; kept = λ t x h. refl }
+  preset-leaves a v (To offset) = record { running = zero-leaves a (signed 16 v) offset; errors = λ x h. refl; kept = λ t x h. refl; lss = λ x. refl }
   preset-leaves a v (Refused code) = keep-leaves (Write given) _ 0
 
   module _ (c : Channel) (v : ℕ) (u : State) where
@@ -98,17 +103,17 @@ module _ (given : ℕ) where
     setting-leaves (Differential a) = put-leaves (Differential a) v
 
     -- "1010:1 … writes the journal; 1011:1 writes the journal"
-    fill-leaves : (o : Object) (kind : ℕ) → T (writesBy (Write given) (rowOf o .index) (rowOf o .subindex) journal) → Written o (Fill c kind)
-    fill-leaves o kind w = record { running = λ s x h. refl; errors = λ x h. refl; kept = λ t x h. absurd (h w) }
+    fill-leaves : (o : Object) (from : Origin) → T (writesBy (Write given) (rowOf o .index) (rowOf o .subindex) journal) → Written o (Fill from)
+    fill-leaves o from w = record { running = λ s x h. refl; errors = λ x h. refl; kept = λ t x h. absurd (h w); lss = λ x. refl }
 
     -- "1003:0 all of 1003"
     change-leaves : (o : Object) → Written o (change c o v u)
     change-leaves (Const f) = keep-leaves (Write given) _ _
-    change-leaves ErrorCount = record { running = λ t x h. refl; errors = λ x h. absurd (h tt); kept = λ t x h. refl }
+    change-leaves ErrorCount = record { running = λ t x h. refl; errors = λ x h. absurd (h tt); kept = λ t x h. refl; lss = λ x. refl }
     change-leaves (ErrorEntry n) = keep-leaves (Write given) _ n
     change-leaves Name = keep-leaves (Write given) _ _
-    change-leaves Save = fill-leaves Save saveKind tt
-    change-leaves Load = fill-leaves Load loadKind tt
+    change-leaves Save = fill-leaves Save (Saved c) tt
+    change-leaves Load = fill-leaves Load (Loaded c) tt
     change-leaves Filled = keep-leaves (Write given) _ _
     change-leaves (Angle a) = keep-leaves (Write given) _ _
     change-leaves (Of s) = setting-leaves s
@@ -140,7 +145,7 @@ module _ (c : Channel) (request : List ℕ) (u : State) where
         unserved = keeps;
       })
 
-transfer-left : (c b : Channel) (next x : Transfer) → (T (sameChannel c b) → ⊥) → onTransfer c b next x ≡ x
+transfer-left : (c b : Channel) (next x : Transfer) → (T (sameChannel c b) → ⊥) → onTransfer (Client c) b next x ≡ x
 transfer-left One One next x h = absurd (h tt)
 transfer-left One Two next x h = refl
 transfer-left Two One next x h = refl
@@ -155,4 +160,5 @@ outcome-left c request u t heartbeat x h = absurd (h tt)
 outcome-left c request u t (pdo n) x h = absurd (h tt)
 outcome-left c request u t (transfer b) x h = transfer-left c b (outcome c request u .transfer) x h
 outcome-left c request u t (axis a) x h = refl
+outcome-left c request u t lss x h = outcome-leaves c request u .lss x
 outcome-left c request u t rest x h = refl

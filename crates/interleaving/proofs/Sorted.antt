@@ -5,6 +5,7 @@ use mathlib.Core.List.{List, [], _∷_}
 use lib.Dec.{T, leb}
 use Rattle.rules.specs.declared.objects.Channel.{Channel}
 use Rattle.rules.specs.declared.objects.Channel.the-variants.{One, Two}
+use Rattle.rules.specs.declared.requests.Caller.the-variants.{Client}
 use Rattle.rules.specs.declared.requests.Outcome.{Outcome}
 use Rattle.rules.specs.Events.{answered}
 use Rattle.rules.specs.Frames.{replyFrame}
@@ -19,7 +20,7 @@ use Rattle.interleaving.specs.Runs.{RunFrame, Turn, turn, add, only, Int
 
 -- what a frame does where nothing is refused with 3 or 1, by whether it is a request
 abbrev pub does : Bool → Channel → RunFrame → State → Result
-does true c f u = answered c (outcome c (f .bytes) u) u
+does true c f u = answered (Client c) (outcome c (f .bytes) u) u
 does false c f u = record { refusal = cond (leb (f .length) 8) 0 2; state = u; sent = [] }
 
 abbrev pub next : Channel → RunFrame → State → State
@@ -33,7 +34,7 @@ module _ (c d : Channel) (two : T (sameChannel c d) → ⊥) (back : T (sameChan
   past-by : (p q : Bool) (f g : RunFrame) → (T p → T q → Apart (f .bytes) (g .bytes)) → (u : State) →
       _≡_ {A = Answer} (does q d g (does p c f u .state) .refusal, does q d g (does p c f u .state) .sent) (does q d g u .refusal, does q d g u .sent)
   past-by true true f g h u =
-      ap (λ (o : Outcome). (0, cond (o .replies) (replyFrame d (u .node) (o .bytes) ∷ []) [])) (outcome-past c d two (f .bytes) (g .bytes) (h tt tt .0) u)
+      ap (λ (o : Outcome). (0, cond (o .replies) (replyFrame (Client d) (u .node) (o .bytes) ∷ []) [])) (outcome-past c d two (f .bytes) (g .bytes) (h tt tt .0) u)
   past-by true false f g h u = refl
   past-by false true f g h u = refl
   past-by false false f g h u = refl

@@ -10,7 +10,7 @@ use Rattle.rules.specs.declared.requests.Command.{Command}
 use Rattle.rules.specs.declared.requests.Command.the-variants.{Write, Read, Segment, End, Unknown}
 use Rattle.rules.specs.Objects.{settingRow}
 use Rattle.rules.specs.Requests.{command, indexOf, subindexOf}
-use Rattle.interleaving.proofs.Cells.{Cell, running, errors, kept, heartbeat, pdo, transfer, axis, rest}
+use Rattle.interleaving.proofs.Cells.{Cell, running, errors, kept, heartbeat, pdo, transfer, axis, lss, rest}
 use Rattle.interleaving.proofs.Members.{readsBy, writesBy}
 use Rattle.interleaving.specs.ReadsWrites.{Value, object, journal, is}
 
@@ -48,6 +48,7 @@ uses c k i s heartbeat = false
 uses c k i s (pdo n) = false
 uses c k i s (transfer b) = sameChannel c b
 uses c k i s (axis a) = true
+uses c k i s lss = false
 uses c k i s rest = true
 
 -- and may change these; the counts too, which are only ever zeroed
@@ -59,6 +60,7 @@ alters c k i s heartbeat = true
 alters c k i s (pdo n) = true
 alters c k i s (transfer b) = sameChannel c b
 alters c k i s (axis a) = false
+alters c k i s lss = false
 alters c k i s rest = false
 
 -- the cells of a request by its bytes

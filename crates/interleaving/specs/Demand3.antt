@@ -1,5 +1,6 @@
 -- Demand 3: "From any record that is not refused, two runs of service requests, one a channel, of which none writes what one of the other
 -- reads or writes by 01's table: however interleaved, each channel gets the same answers in its order, and device and journal end the same."
+-- The runs are of service requests, each on its channel's identifier: LSS requests are not among them, and the record may be in configuration.
 use mathlib.Core.Path.{_≡_}
 use mathlib.Core.Bool.{Bool, not, _&&_}
 use mathlib.Core.List.{List, [], _∷_}

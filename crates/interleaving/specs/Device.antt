@@ -8,7 +8,7 @@ use Rattle.rules.specs.declared.parts.Reading.{Reading}
 use Rattle.rules.specs.declared.settings.AxisSettings.{AxisSettings}
 use Rattle.rules.specs.Numbers.{two, four, minus}
 use Rattle.rules.specs.Settings.{factory, pdoFactory}
-use Rattle.rules.specs.State.{State, operational, noTransfers, good, noCounts}
+use Rattle.rules.specs.State.{State, configuration, operational, noTransfers, good, noCounts}
 use Rattle.interleaving.specs.Runs.{RunFrame}
 
 -- an axis at 12345 thousandths, 1234 steps of 6000
@@ -19,13 +19,14 @@ goodReading = record { state = good; m = pos 12345 }
 abbrev pub adding : AxisSettings
 adding = record { operating = 2; preset = pos 0; offset = minus 1227; differential = pos 0 }
 
--- node 1 in Operational, both axes like that, else factory settings, five errors listed, and one blank block
+-- node 1 in Operational, LSS in configuration with node 2 set, both axes like that, else factory settings, five errors listed, and one blank block
 unfoldable pub device : State
 device = record {
   node = 1;
   identity = record { vendor = 0; product = 0; revision = 0; serial = 0 };
   network = operational;
-  saves = record { blocks = 1; filled = 0; spoiled = 0; stored = factory };
+  lss = record { mode = configuration; matches = 0; node = 2 };
+  saves = record { blocks = 1; filled = 0; spoiled = 0; node = 0; stored = factory };
   running = record { heartbeat = 0; pdo = pdoFactory; resolution = 10; x = adding; y = adding };
   errors = record { length = 5; codes = 0xFF01 ∷ 0xFF02 ∷ 0xFF01 ∷ 0xFF02 ∷ 0xFF00 ∷ [] };
   heartbeat = 0;

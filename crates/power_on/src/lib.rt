@@ -58,10 +58,12 @@ pub fn zero_record() -> Device
             blocks: 0,
             filled: 0,
             spoiled: 0,
+            node: 0,
             stored: settings,
         },
         running: settings,
         errors: ErrorList::empty(),
+        lss: lss::unselected(0),
         node: 0,
         network: 0,
         transfers: service::no_transfers(),
@@ -87,5 +89,6 @@ pub fn power_on(node: u32, identity: Identity, journal: &[u8]) -> Stepped
     if !journal::length_ok(journal) {
         return refuse(WRONG_LENGTH);
     }
-    Device::start(node as u8, identity, journal::saves_in(journal))
+    let saves = journal::saves_in(journal);
+    Device::start(lss::node_else(saves.node, node as u8), identity, saves, 0)
 }

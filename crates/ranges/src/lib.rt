@@ -3,8 +3,9 @@ ghost use mathlib.Core.Path.{_≡_};
 ghost use Rattle.rules.specs.declared.objects.Setting.the-variants.{Resolution};
 ghost use Rattle.rules.specs.Settings.{within, inTable};
 ghost use Rattle.rules.specs.Ranges;
-ghost use Rattle.rules.specs.Ranges.{nodeOk, networkOk, savesOk, codeOk, errorsOk, elapsedOk, syncsOk, countsOk, transferOk, transfersOk, axisOk};
+ghost use Rattle.rules.specs.Ranges.{nodeOk, networkOk, savesOk, codeOk, errorsOk, elapsedOk, syncsOk, countsOk, transferOk, transfersOk, axisOk, lssOk};
 use rules::errors::ErrorList;
+use rules::parts::Lss;
 use rules::parts::PdoCounts;
 use rules::parts::Reading;
 use rules::parts::Saves;
@@ -13,8 +14,6 @@ use rules::settings::AxisSettings;
 use rules::settings::PdoSettings;
 use rules::settings::Settings;
 use rules::states;
-
-const MOST_NODE: u32 = 47;
 
 const LEAST_CODE: u16 = 0xFF00;
 
@@ -50,7 +49,7 @@ pub fn in_table(s: Settings) -> bool
 pub fn node_ok(node: u32) -> bool
     ensures { λ r. ⌜ r ≡ nodeOk node ⌝ }
 {
-    (1 <= node) & (node <= MOST_NODE)
+    (1 <= node) & (node <= (states::MOST_NODE as u32))
 }
 
 // The record's own node, in eight bits.
@@ -58,6 +57,15 @@ pub fn own_node_ok(node: u8) -> bool
     ensures { λ r. ⌜ r ≡ nodeOk node ⌝ }
 {
     node_ok(node as u32)
+}
+
+// LSS: each of its numbers by itself.
+pub fn lss_ok(l: Lss) -> bool
+    ensures { λ r. ⌜ r ≡ lssOk l ⌝ }
+{
+    (l.mode <= states::CONFIGURATION)
+        & (l.matches <= states::MOST_MATCHES)
+        & (l.node <= states::MOST_NODE)
 }
 
 pub fn network_ok(network: u8) -> bool
@@ -75,6 +83,7 @@ pub fn saves_ok(s: Saves) -> bool
         & (s.blocks <= Saves::MOST_BLOCKS)
         & (s.filled <= s.blocks)
         & (s.spoiled <= 1)
+        & (s.node <= states::MOST_NODE)
         & in_table(s.stored)
 }
 

@@ -1,16 +1,16 @@
 -- The refusal table for an event: 3, then 1, then 2.
 use mathlib.Core.Path.{_≡_, refl, sym, _∙_}
 use mathlib.Core.Bool.{Bool, true, false, cond, _&&_}
-use mathlib.Core.List.{List, [], _∷_}
+use mathlib.Core.List.{List}
 use mathlib.Core.Logic.{_⊎_, inl, inr, ⊎-elim}
 use Prim.Native.Nat.{ℕ, _*_, _<_}
 use native.Mathlib.Omega.{arith}
 use borrow.Author.Tests.{leb-true, leb-false, eqb-true, eqb-false}
 use lib.Dec.{leb}
 use lib.ListN.{length}
-use Rattle.laws.proofs.Bools.{no, left, right, first-of}
+use Rattle.laws.proofs.Bools.{no, left, right}
 use Rattle.rules.proofs.Accepted.{frame-accepted, tick-accepted, reading-accepted}
-use Rattle.rules.proofs.InRange.{parts}
+use Rattle.rules.proofs.InRange.{parts, saves-parts}
 use Rattle.rules.proofs.Numbers.{from-least, to-most}
 use Rattle.rules.proofs.Refusals.{range-first, length-second, then-its-kind}
 use Rattle.rules.specs.declared.events.Event.{Event}
@@ -20,7 +20,6 @@ use Rattle.rules.specs.Events.{frameOk, onFrame, onEvent, journalFits, event}
 use Rattle.rules.specs.Numbers.{between}
 use Rattle.rules.specs.Ranges.{inRange}
 use Rattle.rules.specs.Results.{Result, refused}
-use Rattle.rules.specs.Settings.{inTable}
 use Rattle.rules.specs.State.{State}
 use Rattle.refusals.specs.Rows.{WrongRecord, WrongJournal, WrongFrame, EventRows}
 use Rattle.refusals.proofs.Sorted.{Sorted, by-first, by-second, by-third, by-none, row-first, row-second, row-third, row-none, no-more}
@@ -45,9 +44,7 @@ module _ (f : FrameHead) (n : ℕ) where
 
 -- a record in range has 1 to 128 blocks
 blocks-in : (u : State) → inRange u ≡ true → between 1 128 (u .saves .blocks) ≡ true
-blocks-in u range =
-    let s = u .saves in
-    first-of (between 1 128 (s .blocks)) (leb (s .filled) (s .blocks) ∷ leb (s .spoiled) 1 ∷ inTable (s .stored) ∷ []) (parts u range .saves)
+blocks-in u range = saves-parts (u .saves) (parts u range .saves) .blocks
 
 -- a record in range, beside a journal of its length
 module _ (u : State) (range : inRange u ≡ true) where

@@ -30,6 +30,7 @@ lent j u = record {
   node = u .node;
   identity = u .identity;
   network = u .network;
+  lss = u .lss;
   saves = u .saves;
   running = u .running;
   errors = u .errors;

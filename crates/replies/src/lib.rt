@@ -2,6 +2,7 @@
 use rules::aborts;
 ghost use mathlib.Core.Path.{_≡_};
 ghost use mathlib.Core.List.{_∷_};
+ghost use Rattle.rules.specs.Lss.{lssReply};
 ghost use Rattle.rules.specs.Numbers.{four};
 ghost use Rattle.rules.specs.Replies.{reply as replyOf, readFirst, firstSegment, lastSegment, wrongToggle, noTransfer};
 
@@ -18,6 +19,22 @@ pub fn reply(first: u8, to: [u8; 8], n: u32) -> [u8; 8]
         (n / 256 % 256) as u8,
         (n / 65536 % 256) as u8,
         (n / 16777216 % 256) as u8,
+    ]
+}
+
+// An LSS reply: the first byte, and a number behind it.
+pub fn lss(first: u8, n: u32) -> [u8; 8]
+    ensures { λ r. ⌜ r ≡ lssReply first n ⌝ }
+{
+    [
+        first,
+        (n % 256) as u8,
+        (n / 256 % 256) as u8,
+        (n / 65536 % 256) as u8,
+        (n / 16777216 % 256) as u8,
+        0,
+        0,
+        0,
     ]
 }
 

@@ -1,6 +1,7 @@
-// What a request of eight bytes asks.
+// What a request of eight bytes asks, and the rule that names a frame.
 use rules::events::FrameHead;
 use rules::objects::Channel;
+use rules::requests::Caller;
 use rules::requests::Command;
 ghost use mathlib.Core.Path.{_≡_};
 ghost use Prim.Native.Nat.{_+_, _*_, _%_, _^_};
@@ -15,6 +16,8 @@ const MOST_LENGTH: u8 = 8;
 const SYNC_AT: u32 = 0x80;
 
 const WHOLE_REQUEST: u8 = 8;
+
+const LSS_REQUEST_AT: u32 = 0x7E5;
 
 pub fn command(first: u8) -> Command
     ensures { λ r. ⌜ r ≡ commandOf first ⌝ }
@@ -52,13 +55,27 @@ pub fn subindex(request: [u8; 8]) -> u8
     request[3]
 }
 
+// The number in four bytes.
+fn four(first: u8, second: u8, third: u8, last: u8) -> u32
+    ensures { λ r. ⌜ r ≡ first + 256 * second + 65536 * (third + 256 * last) ⌝ }
+{
+    let low = two(first, second) as u32;
+    let high = two(third, last) as u32;
+    low + 65536 * high
+}
+
 // The last four bytes as a number.
 fn whole(request: [u8; 8]) -> u32
     ensures { λ r. ⌜ r ≡ fourAt request 4 ⌝ }
 {
-    let low = two(request[4], request[5]) as u32;
-    let high = two(request[6], request[7]) as u32;
-    low + 65536 * high
+    four(request[4], request[5], request[6], request[7])
+}
+
+// The number that an LSS request selects by.
+pub fn selector(request: [u8; 8]) -> u32
+    ensures { λ r. ⌜ r ≡ fourAt request 1 ⌝ }
+{
+    four(request[1], request[2], request[3], request[4])
 }
 
 // A number's lowest bytes, so many.
@@ -87,7 +104,7 @@ pub enum Rule {
     Nothing,
     Network(u8),
     Sync,
-    Request(Channel),
+    Request(Caller),
 }
 
 // An NMT command to this node or to all.
@@ -101,7 +118,7 @@ fn command_to(bytes: [u8; 8], length: u8, node: u8) -> Rule
     Rule::Nothing
 }
 
-// The channel that an identifier calls, with requests of eight bytes only.
+// Who calls by an identifier, with requests of eight bytes only.
 fn request_to(identifier: u32, length: u8, node: u8) -> Rule
     ensures { λ r. ⌜ r ≡ requestTo identifier length node ⌝ }
 {
@@ -109,10 +126,13 @@ fn request_to(identifier: u32, length: u8, node: u8) -> Rule
         return Rule::Nothing;
     }
     if identifier == 0x600 + (node as u32) {
-        return Rule::Request(Channel::One);
+        return Rule::Request(Caller::Client(Channel::One));
     }
     if identifier == 0x680 + (node as u32) {
-        return Rule::Request(Channel::Two);
+        return Rule::Request(Caller::Client(Channel::Two));
+    }
+    if identifier == LSS_REQUEST_AT {
+        return Rule::Request(Caller::Master);
     }
     Rule::Nothing
 }

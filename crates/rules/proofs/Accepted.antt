@@ -10,7 +10,7 @@ use Rattle.rules.specs.Events.{onFrame}
 use Rattle.rules.specs.Network.{start}
 use Rattle.rules.specs.Readings.{onReading}
 use Rattle.rules.specs.Results.{Result}
-use Rattle.rules.specs.State.{State}
+use Rattle.rules.specs.State.{State, lastSet}
 use Rattle.rules.proofs.EachEvent.{each-frame}
 use Rattle.rules.specs.Time.{onTick, onSync}
 
@@ -18,7 +18,7 @@ module _ (u : State) where
   abbrev pub Accepted : Result → Type 0
   Accepted r = (r .refusal ≡ 0) × (r .state .saves .blocks ≡ u .saves .blocks)
 
-  start-accepted : Accepted (start (u .node) (u .identity) (u .saves) (u .journal))
+  start-accepted : Accepted (start (lastSet u) (u .identity) (u .saves) (u .lss .node) (u .journal))
   unfolding start
   start-accepted = (refl, refl)
 

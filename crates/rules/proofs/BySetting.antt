@@ -13,7 +13,7 @@ use Rattle.rules.specs.declared.objects.PdoSetting.the-variants.{On, Tra
 use Rattle.rules.specs.declared.objects.Setting.{Setting}
 use Rattle.rules.specs.declared.objects.Setting.the-variants.{Heartbeat, Pdo, Resolution, Operating, Preset, Offset, Differential}
 use Rattle.rules.specs.declared.requests.Change.{Change}
-use Rattle.rules.specs.declared.requests.Change.the-variants.{Keep, Put, Zero, Empty, Fill}
+use Rattle.rules.specs.declared.requests.Change.the-variants.{Keep, Put, Zero, Empty, Configure, Fill}
 use Rattle.rules.specs.declared.settings.AxisSettings.{AxisSettings}
 use Rattle.rules.specs.declared.settings.PdoSettings.{PdoSettings}
 use Rattle.rules.specs.declared.settings.Settings.{Settings}
@@ -74,7 +74,8 @@ onSetting Keep s x = x
 onSetting (Put t v) s x = cond (sameSetting s t) (valued s v) x
 onSetting (Zero a preset offset) s x = zeroedAt a preset offset s x
 onSetting Empty s x = x
-onSetting (Fill c kind) s x = x
+onSetting (Configure l) s x = x
+onSetting (Fill o) s x = x
 
 put-by-setting : (s : Setting) (v : ℕ) (t : Settings) → put s v t ≡ settingsOf (λ k. onSetting (Put s v) k (setting k t))
 put-by-setting Heartbeat v t = refl
@@ -97,4 +98,5 @@ by-setting (Put s v) t = put-by-setting s v t
 by-setting (Zero X preset offset) t = refl
 by-setting (Zero Y preset offset) t = refl
 by-setting Empty t = refl
-by-setting (Fill c kind) t = refl
+by-setting (Configure l) t = refl
+by-setting (Fill o) t = refl

@@ -11,19 +11,19 @@ use Rattle.rules.specs.declared.events.Event.{Event}
 use Rattle.rules.specs.declared.events.Event.the-variants.{Received, Tick, Measured}
 use Rattle.rules.specs.declared.events.FrameHead.{FrameHead}
 use Rattle.rules.specs.declared.objects.Axis.{Axis}
-use Rattle.rules.specs.declared.objects.Channel.{Channel}
 use Rattle.rules.specs.declared.objects.Channel.the-variants.{One, Two}
 use Rattle.rules.specs.declared.parts.Identity.{Identity}
-use Rattle.rules.specs.Events.{answered, onService, onFrame, frameOk, onEvent, journalFits, NotRefused, event}
-use Rattle.rules.specs.Frames.{requestsAt, bootUpFrame}
+use Rattle.rules.specs.declared.requests.Caller.{Caller}
+use Rattle.rules.specs.declared.requests.Caller.the-variants.{Client, Master}
+use Rattle.rules.specs.Events.{answered, onFrame, frameOk, onEvent, journalFits, NotRefused, event, outcomeFor, onRequest}
+use Rattle.rules.specs.Frames.{bootUpFrame, requestAt}
 use Rattle.rules.specs.Journal.{lengthOk}
 use Rattle.rules.specs.Network.{start, communicating, onNetworkCommand, onNetwork}
 use Rattle.rules.specs.PowerOn.{savesIn, zeroState, powerOn}
 use Rattle.rules.specs.Ranges.{inRange, nodeOk}
 use Rattle.rules.specs.Readings.{onReading}
 use Rattle.rules.specs.Results.{Result, accepted, ignored, refused}
-use Rattle.rules.specs.Service.{outcome}
-use Rattle.rules.specs.State.{State, stopped, operational, preOperational, noCounts, withNetwork}
+use Rattle.rules.specs.State.{State, stopped, operational, preOperational, noCounts, withNetwork, nodeElse, lastSet}
 use Rattle.rules.specs.Time.{onTick, onSync}
 
 module _ (u : State) (P : Result → Type 0) where
@@ -33,12 +33,12 @@ module _ (u : State) (P : Result → Type 0) where
     pub operational : P (ignored (withNetwork operational noCounts u))
     pub stopped : P (ignored (withNetwork stopped (u .pdo) u))
     pub preOperational : P (ignored (withNetwork preOperational (u .pdo) u))
-    pub started : P (start (u .node) (u .identity) (u .saves) (u .journal))
-    pub communicated : P (accepted (communicating u) (bootUpFrame (u .node) ∷ []))
+    pub started : P (start (lastSet u) (u .identity) (u .saves) (u .lss .node) (u .journal))
+    pub communicated : P (accepted (communicating u) (bootUpFrame (lastSet u) ∷ []))
     pub synchronized : P (onSync u)
     pub ticked : (ms : ℕ) → P (onTick ms u)
     pub measured : (a : Axis) (m : ℤ) → P (onReading a m u)
-    pub requested : (c : Channel) (bytes : List ℕ) → P (answered c (outcome c bytes u) u)
+    pub requested : (c : Caller) (bytes : List ℕ) → P (answered c (outcomeFor c bytes u) u)
 
   module _ (each : Each) where
     command : (number : ℕ) → P (onNetworkCommand number u)
@@ -56,9 +56,9 @@ module _ (u : State) (P : Result → Type 0) where
         let to = getD bytes 1 0 in
         cond-both P (eqb length 2 && (eqb to 0 || eqb to (u .node))) (command (getD bytes 0 0)) (each .unnamed)
 
-    service : (c : Channel) (bytes : List ℕ) (length : ℕ) → P (onService c bytes length u)
-    unfolding onService
-    service c bytes length = cond-both P (eqb length 8) (each .requested c bytes) (each .unnamed)
+    request : (c : Caller) (bytes : List ℕ) (length : ℕ) → P (onRequest c bytes length u)
+    unfolding onRequest
+    request c bytes length = cond-both P (eqb length 8) (each .requested c bytes) (each .unnamed)
 
     pub each-frame : (f : FrameHead) (bytes : List ℕ) (length : ℕ) → P (onFrame f bytes length u)
     unfolding onFrame
@@ -66,8 +66,9 @@ module _ (u : State) (P : Result → Type 0) where
         cond-both P (f .remote) (each .unnamed)
         (cond-both P (eqb (f .identifier) 0) (network bytes length)
         (cond-both P (eqb (f .identifier) 0x80 && eqb length 0) (each .synchronized)
-        (cond-both P (eqb (f .identifier) (requestsAt One + u .node)) (service One bytes length)
-        (cond-both P (eqb (f .identifier) (requestsAt Two + u .node)) (service Two bytes length) (each .unnamed)))))
+        (cond-both P (eqb (f .identifier) (requestAt (Client One) (u .node))) (request (Client One) bytes length)
+        (cond-both P (eqb (f .identifier) (requestAt (Client Two) (u .node))) (request (Client Two) bytes length)
+        (cond-both P (eqb (f .identifier) (requestAt Master (u .node))) (request Master bytes length) (each .unnamed))))))
 
   -- or it is refused, with the state as given
   module _ (same : (number : ℕ) → P (refused number u)) where
@@ -83,7 +84,7 @@ module _ (u : State) (P : Result → Type 0) where
 
 -- power-on is refused, or starts from what it finds in the journal
 pub power-each : (P : Result → Type 0) (node : ℕ) (identity : Identity) (j : List ℕ)
-    → (nodeOk node ≡ true → lengthOk j ≡ true → P (start node identity (savesIn j) j)) → ((number : ℕ) → P (refused number (zeroState j)))
+    → (nodeOk node ≡ true → lengthOk j ≡ true → P (start (nodeElse (savesIn j .node) node) identity (savesIn j) 0 j)) → ((number : ℕ) → P (refused number (zeroState j)))
     → P (powerOn node identity j)
 unfolding powerOn
 power-each P node identity j on off =

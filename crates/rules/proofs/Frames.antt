@@ -11,7 +11,8 @@ use Rattle.rules.proofs.Numbers.{to-most}
 use Rattle.rules.specs.declared.events.Event.the-variants.{Received}
 use Rattle.rules.specs.declared.objects.Channel.{Channel}
 use Rattle.rules.specs.declared.objects.Channel.the-variants.{One, Two}
-use Rattle.rules.specs.Events.{onService, onFrame, journalFits, event}
+use Rattle.rules.specs.declared.requests.Caller.the-variants.{Client}
+use Rattle.rules.specs.Events.{onRequest, onFrame, journalFits, event}
 use Rattle.rules.specs.Frames.{requestsAt}
 use Rattle.rules.specs.Ranges.{inRange}
 use Rattle.rules.specs.Results.{Result, ignored, refused}
@@ -19,7 +20,7 @@ use Rattle.rules.specs.State.{State}
 
 module _ (remote : Bool) (bytes : List ℕ) (n : ℕ) (u : State) (range : inRange u ≡ true) (fits : journalFits u ≡ true) where
   abbrev onChannel : Channel → Result
-  onChannel c = cond (leb n 8) (cond remote (ignored u) (onService c bytes n u)) (refused 2 u)
+  onChannel c = cond (leb n 8) (cond remote (ignored u) (onRequest (Client c) bytes n u)) (refused 2 u)
 
   node-most : u .node ≤ 47
   node-most = to-most 1 47 (u .node) (parts u range .node)

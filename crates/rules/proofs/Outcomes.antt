@@ -9,6 +9,8 @@ use lib.Dec.{eqb, ltb, leb}
 use lib.IntN.{ℤ}
 use borrow.Author.Tests.{eqb-true, ltb-true}
 use Rattle.laws.proofs.Bools.{cond-both, cond-each}
+use Rattle.rules.specs.declared.journal.Origin.{Origin}
+use Rattle.rules.specs.declared.journal.Origin.the-variants.{Saved, Loaded, Stored}
 use Rattle.rules.specs.declared.objects.Axis.{Axis}
 use Rattle.rules.specs.declared.objects.Channel.{Channel}
 use Rattle.rules.specs.declared.objects.Object.{Object}
@@ -17,34 +19,51 @@ use Rattle.rules.specs.declared.objects.PdoSetting.the-variants.{On, Tra
 use Rattle.rules.specs.declared.objects.Setting.{Setting}
 use Rattle.rules.specs.declared.objects.Setting.the-variants.{Heartbeat, Pdo, Resolution, Operating, Preset, Offset, Differential}
 use Rattle.rules.specs.declared.parts.Reading.{Reading}
+use Rattle.rules.specs.declared.requests.Caller.{Caller}
+use Rattle.rules.specs.declared.requests.Caller.the-variants.{Client, Master}
 use Rattle.rules.specs.declared.requests.Change.{Change}
-use Rattle.rules.specs.declared.requests.Change.the-variants.{Keep, Put, Zero, Empty, Fill}
+use Rattle.rules.specs.declared.requests.Change.the-variants.{Keep, Put, Zero, Empty, Configure, Fill}
 use Rattle.rules.specs.declared.requests.Outcome.{Outcome}
 use Rattle.rules.specs.declared.requests.Verdict.{Verdict}
 use Rattle.rules.specs.declared.requests.Verdict.the-variants.{Pass, Abort}
 use Rattle.rules.specs.declared.requests.Zeroed.{Zeroed}
 use Rattle.rules.specs.declared.requests.Zeroed.the-variants.{To, Refused}
 use Rattle.rules.specs.Angle.{offset, zeroed}
-use Rattle.rules.specs.Block.{saveKind, loadKind}
-use Rattle.rules.specs.Numbers.{between, fourAt, fits, signed}
+use Rattle.rules.specs.Events.{outcomeFor}
+use Rattle.rules.specs.Lss.{lssOutcome}
+use Rattle.rules.specs.Numbers.{fourAt, fits, signed}
 use Rattle.rules.specs.Objects.{rowOf, settingRow}
+use Rattle.rules.specs.Ranges.{transferOk, nodeOk, lssOk}
 use Rattle.rules.specs.Requests.{valueFor}
-use Rattle.rules.specs.Service.{outcome}
+use Rattle.rules.specs.Service.{outcome, carrying}
 use Rattle.rules.specs.Settings.{within, pdoWithin, axisSettings}
-use Rattle.rules.specs.State.{State, good, reading, transferOf}
+use Rattle.rules.specs.State.{State, good, reading, transferOf, nodeOrNone, lastSet}
 use Rattle.rules.specs.Writes.{_then_, unless, lengthCheck, roomCheck, zeroedBy, zeroChange, settingWrite, writeOf, writeCheck, change}
-use Rattle.rules.specs.Ranges.{transferOk}
 use Rattle.rules.proofs.BySetting.{valued}
+use Rattle.rules.proofs.EachLss.{each-lss}
 use Rattle.rules.proofs.EachOutcome.{each-outcome}
+use Rattle.rules.proofs.Nodes.{node-small, node-else, lss-node}
 use Rattle.rules.proofs.Ranges.{signed-fits}
 
--- what a change may be in a state: a value is in its setting's length and range, and a block is filled where one is left
+-- a store stores a node number
+abbrev pub Numbered : Origin → Type 0
+Numbered (Saved c) = Unit {0}
+Numbered (Loaded c) = Unit {0}
+Numbered (Stored node) = nodeOrNone node ≡ true
+
+pub carrying-in : (o : Origin) (was : ℕ) → Numbered o → nodeOrNone was ≡ true → nodeOrNone (carrying o was) ≡ true
+carrying-in (Saved c) was n h = h
+carrying-in (Loaded c) was n h = h
+carrying-in (Stored node) was n h = n
+
+-- what a change may be in a state: a value is in its setting's length and range, LSS in its range, and a block is filled where one is left
 abbrev pub Allowed : State → Change → Type 0
 Allowed u Keep = Unit {0}
 Allowed u (Put s v) = (v < 256 ^ settingRow s .size) × (within s (valued s v) ≡ true)
 Allowed u (Zero a preset offset) = (fits 16 preset ≡ true) × (fits 16 offset ≡ true)
 Allowed u Empty = Unit {0}
-Allowed u (Fill c kind) = (u .saves .filled < u .saves .blocks) × (u .saves .spoiled ≡ 0) × (between saveKind loadKind kind ≡ true)
+Allowed u (Configure l) = lssOk l ≡ true
+Allowed u (Fill o) = (u .saves .filled < u .saves .blocks) × (u .saves .spoiled ≡ 0) × Numbered o
 
 -- the first and the last check pass where the whole chain does
 pub passes-first : (v w : Verdict) → v then w ≡ Pass → v ≡ Pass
@@ -87,17 +106,17 @@ zero-fits x r operating differential preset =
     cond-both ZeroFits (eqb (x .state) good) (cond-each ZeroFits (fits 16 o) (λ e. e) (λ e. tt)) tt
 
 module _ (u : State) where
-  fills : (c : Channel) (kind : ℕ) → between saveKind loadKind kind ≡ true
-      → roomCheck (u .saves .spoiled) (u .saves .filled) (u .saves .blocks) ≡ Pass → Allowed u (Fill c kind)
+  pub fill-allowed : (o : Origin) → Numbered o
+      → roomCheck (u .saves .spoiled) (u .saves .filled) (u .saves .blocks) ≡ Pass → Allowed u (Fill o)
   unfolding roomCheck
-  fills c kind does e =
+  fill-allowed o numbered e =
       let whole = eqb (u .saves .spoiled) 0 in
       let free = ltb (u .saves .filled) (u .saves .blocks) in
       let first = unless whole 0x06060000 in
       let last = unless free 0x05040005 in (
         ltb-true (u .saves .filled) (u .saves .blocks) (passes free 0x05040005 (passes-last first last e)),
         eqb-true (u .saves .spoiled) 0 (passes whole 0x06060000 (passes-first first last e)),
-        does,
+        numbered,
       )
 
   zeroes : (a : Axis) (v : ℕ) (z : Zeroed) → v < 0x10000 → ZeroFits z → Allowed u (zeroChange a v z)
@@ -121,8 +140,8 @@ module _ (u : State) where
   changes c ErrorCount v h p e = tt
   changes c (ErrorEntry n) v h p e = tt
   changes c Name v h p e = tt
-  changes c Save v h p e = fills c saveKind refl e
-  changes c Load v h p e = fills c loadKind refl e
+  changes c Save v h p e = fill-allowed (Saved c) tt e
+  changes c Load v h p e = fill-allowed (Loaded c) tt e
   changes c Filled v h p e = tt
   changes c (Angle a) v h p e = tt
   changes c (Of s) v h p e = sets c s v h p
@@ -137,8 +156,8 @@ module _ (u : State) where
       let checked = passes-last long (value then state) (passes-last (unless (rowOf o .writable) 0x06010002) (long then value then state) e) in
       changes c o v (value-fits o request) (passes-first value state checked) (passes-last value state checked)
 
-  pub allowed : (c : Channel) (request : List ℕ) → Allowed u (outcome c request u .change)
-  allowed c request =
+  client-allowed : (c : Channel) (request : List ℕ) → Allowed u (outcome c request u .change)
+  client-allowed c request =
       each-outcome c request u (λ (o : Outcome). Allowed u (o .change))
       (record {
         aborted = λ code. tt;
@@ -153,9 +172,25 @@ module _ (u : State) where
         unserved = tt;
       })
 
+  -- an LSS request: LSS stays in its range, and a store's number is a node number
+  master-allowed : (request : List ℕ) → nodeOk (u .node) ≡ true → lssOk (u .lss) ≡ true → Allowed u (lssOutcome request u .change)
+  master-allowed request node lss =
+      each-lss request u (λ (o : Outcome). Allowed u (o .change))
+      (record {
+        silent = tt;
+        changed = λ l h. h lss;
+        configured = λ first l n h. h lss;
+        answered = λ first n h. tt;
+        stored = λ e. fill-allowed (Stored (lastSet u)) (node-small (lastSet u) (node-else (u .lss .node) (u .node) (lss-node (u .lss) lss) node)) e;
+      })
+
+  pub allowed : (c : Caller) (request : List ℕ) → nodeOk (u .node) ≡ true → lssOk (u .lss) ≡ true → Allowed u (outcomeFor c request u .change)
+  allowed (Client c) request node lss = client-allowed c request
+  allowed Master request node lss = master-allowed request node lss
+
   -- a channel's transfer stays absent, at the start or after seven bytes
-  pub transfer-in : (c : Channel) (request : List ℕ) → transferOk (transferOf c u) ≡ true → transferOk (outcome c request u .transfer) ≡ true
-  transfer-in c request h =
+  client-transfer : (c : Channel) (request : List ℕ) → transferOk (transferOf c u) ≡ true → transferOk (outcome c request u .transfer) ≡ true
+  client-transfer c request h =
       each-outcome c request u (λ (o : Outcome). transferOk (o .transfer) ≡ true)
       (record {
         aborted = λ code. refl;
@@ -169,3 +204,9 @@ module _ (u : State) where
         ended = refl;
         unserved = h;
       })
+
+  pub transfer-in : (c : Caller) (request : List ℕ) → ((b : Channel) → transferOk (transferOf b u) ≡ true) → transferOk (outcomeFor c request u .transfer) ≡ true
+  transfer-in (Client c) request h = client-transfer c request (h c)
+  transfer-in Master request h =
+      each-lss request u (λ (o : Outcome). transferOk (o .transfer) ≡ true)
+      (record { silent = refl; changed = λ l r. refl; configured = λ first l n r. refl; answered = λ first n r. refl; stored = λ e. refl })

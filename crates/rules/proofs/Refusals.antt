@@ -13,7 +13,7 @@ use Rattle.rules.specs.Network.{start}
 use Rattle.rules.specs.PowerOn.{savesIn, zeroState, powerOn}
 use Rattle.rules.specs.Ranges.{inRange, nodeOk}
 use Rattle.rules.specs.Results.{Result, refused}
-use Rattle.rules.specs.State.{State}
+use Rattle.rules.specs.State.{State, nodeElse}
 use Rattle.rules.proofs.EachEvent.{power-each}
 use Rattle.rules.proofs.Accepted.{Accepted, frame-accepted, tick-accepted, reading-accepted}
 
@@ -67,7 +67,7 @@ module _ (node : ℕ) (identity : Identity) (j : List ℕ) where
     unfolding powerOn
     journal-second other = rw (ok, other)
 
-    pub then-starts : lengthOk j ≡ true → powerOn node identity j ≡ start node identity (savesIn j) j
+    pub then-starts : lengthOk j ≡ true → powerOn node identity j ≡ start (nodeElse (savesIn j .node) node) identity (savesIn j) 0 j
     unfolding powerOn
     then-starts whole = rw (ok, whole)
 

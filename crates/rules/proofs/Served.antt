@@ -9,6 +9,8 @@ use lib.ListN.{length}
 use borrow.Author.Tests.{eqb-true, le-leb}
 use Rattle.laws.proofs.Bools.{both, right, cond-each, cond-both, one-of}
 use mathlib.Core.List.{List, [], _∷_}
+use Rattle.rules.specs.declared.journal.Origin.{Origin}
+use Rattle.rules.specs.declared.journal.Origin.the-variants.{Saved, Loaded, Stored}
 use Rattle.rules.specs.declared.objects.Axis.{Axis}
 use Rattle.rules.specs.declared.objects.Axis.the-variants.{X, Y}
 use Rattle.rules.specs.declared.objects.Channel.{Channel}
@@ -18,23 +20,25 @@ use Rattle.rules.specs.declared.objects.PdoSetting.the-variants.{On, Tra
 use Rattle.rules.specs.declared.objects.Setting.{Setting}
 use Rattle.rules.specs.declared.objects.Setting.the-variants.{Heartbeat, Pdo, Resolution, Operating, Preset, Offset, Differential}
 use Rattle.rules.specs.declared.parts.Transfer.{Transfer}
+use Rattle.rules.specs.declared.requests.Caller.{Caller}
+use Rattle.rules.specs.declared.requests.Caller.the-variants.{Client, Master}
 use Rattle.rules.specs.declared.requests.Change.{Change}
-use Rattle.rules.specs.declared.requests.Change.the-variants.{Keep, Put, Zero, Empty, Fill}
+use Rattle.rules.specs.declared.requests.Change.the-variants.{Keep, Put, Zero, Empty, Configure, Fill}
 use Rattle.rules.specs.declared.requests.Outcome.{Outcome}
 use Rattle.rules.specs.declared.settings.Settings.{Settings}
-use Rattle.rules.specs.Block.{block, channelNumber, loadKind, mostBlocks}
-use Rattle.rules.specs.Events.{journalFits}
+use Rattle.rules.specs.Block.{mostBlocks, blockFrom, originChannel, originKind}
+use Rattle.rules.specs.Events.{journalFits, outcomeFor}
 use Rattle.rules.specs.Numbers.{between, fits}
 use Rattle.rules.specs.Objects.{sameSetting}
-use Rattle.rules.specs.Ranges.{inRange, savesOk, errorsOk, elapsedOk, countsOk, transferOk}
-use Rattle.rules.specs.Service.{Kept, stateAfter, outcome, putPdo, runningAfter, onErrors, keptIn, onKept, stores, storing, onHeartbeat, onCounts, onTransfer}
+use Rattle.rules.specs.Ranges.{inRange, savesOk, errorsOk, elapsedOk, countsOk, transferOk, lssOk}
+use Rattle.rules.specs.Service.{Kept, stateAfter, putPdo, runningAfter, onErrors, keptIn, onKept, stores, storing, onHeartbeat, onCounts, onTransfer, onLss, carrying}
 use Rattle.rules.specs.Settings.{Held, every, inTable, setting, within}
-use Rattle.rules.specs.State.{State, absent, transferring, place, transferOf}
+use Rattle.rules.specs.State.{State, absent, transferring, place, transferOf, nodeOrNone}
 use Rattle.rules.proofs.Block.{block-length}
-use Rattle.rules.proofs.InRange.{InRange, parts, together}
+use Rattle.rules.proofs.InRange.{InRange, parts, together, SavesInRange, saves-parts, saves-together}
 use Rattle.rules.proofs.BySetting.{valued, sameAxis, zeroedAt, onSetting, by-setting}
 use Rattle.rules.proofs.Kept.{put-length}
-use Rattle.rules.proofs.Outcomes.{Allowed, allowed, transfer-in}
+use Rattle.rules.proofs.Outcomes.{Allowed, allowed, transfer-in, carrying-in}
 use Rattle.rules.proofs.Ranges.{factory-in, no-errors-in, no-elapsed-in, no-counts-in}
 use Rattle.rules.proofs.Rows.{one-setting}
 use Rattle.rules.proofs.Table.{every-get, setting-in, table-of}
@@ -64,14 +68,16 @@ module _ (u : State) (r : InRange u) where
   settings-in (Put t v) a s = put-in t s v (a .1)
   settings-in (Zero b preset offset) a s = zeroed-in b preset offset (a .0) (a .1) s
   settings-in Empty a s = setting-in (u .running) (r .running) s
-  settings-in (Fill c kind) a s = setting-in (u .running) (r .running) s
+  settings-in (Configure l) a s = setting-in (u .running) (r .running) s
+  settings-in (Fill o) a s = setting-in (u .running) (r .running) s
 
   errors-in : (e : Change) → errorsOk (onErrors e (u .errors)) ≡ true
   errors-in Keep = r .errors
   errors-in (Put s v) = r .errors
   errors-in (Zero a preset offset) = r .errors
   errors-in Empty = no-errors-in
-  errors-in (Fill c kind) = r .errors
+  errors-in (Configure l) = r .errors
+  errors-in (Fill o) = r .errors
 
   -- the counts: a write that moves a period or a type zeroes what is counted against it
   abbrev Counts : Change → Type 0
@@ -103,50 +109,73 @@ module _ (u : State) (r : InRange u) where
   counts-in (Zero X preset offset) = same
   counts-in (Zero Y preset offset) = same
   counts-in Empty = same
-  counts-in (Fill c kind) = same
+  counts-in (Configure l) = same
+  counts-in (Fill o) = same
 
-  -- what only a save or a load changes
+  lss-after : (e : Change) → Allowed u e → lssOk (onLss e (u .lss)) ≡ true
+  lss-after Keep a = r .lss
+  lss-after (Put t v) a = r .lss
+  lss-after (Zero b preset offset) a = r .lss
+  lss-after Empty a = r .lss
+  lss-after (Configure l) a = a
+  lss-after (Fill o) a = r .lss
+
+  -- what only a save, a load or a store changes
   module _ (fit : journalFits u ≡ true) where
     record Fits (k : Kept) : Type 0 where
-      saves : savesOk (record { blocks = u .saves .blocks; filled = k .filled; spoiled = u .saves .spoiled; stored = k .stored }) ≡ true
+      saves : savesOk (record { blocks = u .saves .blocks; filled = k .filled; spoiled = u .saves .spoiled; node = k .node; stored = k .stored }) ≡ true
       journal : eqb (length (k .journal)) (512 * u .saves .blocks) ≡ true
 
-    -- what is stored is within the object table, as the running settings and factory are
-    stored-in : (kind : ℕ) → inTable (storing kind (u .running)) ≡ true
-    stored-in kind = cond-both (λ (t : Settings). inTable t ≡ true) (eqb kind loadKind) factory-in (r .running)
+    was-kept : SavesInRange (u .saves)
+    was-kept = saves-parts (u .saves) (r .saves)
 
-    fill-in : (c : Channel) (kind : ℕ) → Allowed u (Fill c kind) → Fits (onKept (Fill c kind) (storing kind (u .running)) (keptIn u))
-    fill-in c kind a =
-        let t = storing kind (u .running) in
-        let at = one-of (between 1 mostBlocks (u .saves .blocks)) (leb (u .saves .filled) (u .saves .blocks) ∷ leb (u .saves .spoiled) 1 ∷ inTable (u .saves .stored) ∷ []) (r .saves) in
+    -- what is stored is within the object table, as the running settings, factory and what was stored are
+    pub stored-in : (o : Origin) → inTable (storing o (u .running) (u .saves .stored)) ≡ true
+    stored-in (Saved c) = r .running
+    stored-in (Loaded c) = factory-in
+    stored-in (Stored node) = was-kept .stored
+
+    fill-in : (o : Origin) → Allowed u (Fill o) → Fits (onKept (Fill o) (storing o (u .running) (u .saves .stored)) (keptIn u))
+    fill-in o a =
+        let t = storing o (u .running) (u .saves .stored) in
+        let node = carrying o (u .saves .node) in
         let long = eqb-true (length (u .journal)) (512 * u .saves .blocks) fit in
         let room = a .0 in
-        let b = block (u .saves .filled + 1) (channelNumber c) kind t in
+        let b = blockFrom o (u .saves .filled + 1) t node in
         let enough : 512 * (u .saves .filled + 1) ≤ length (u .journal) = omega (arith, long, room) in
         record {
-          saves = simp (at 0, le-leb (u .saves .filled + 1) (u .saves .blocks) (omega (arith, room)), at 2, stored-in kind);
-          journal = simp (put-length (u .saves .filled) b (u .journal) enough (block-length (u .saves .filled + 1) (channelNumber c) kind t)) fit;
+          saves = saves-together (record { blocks = u .saves .blocks; filled = u .saves .filled + 1; spoiled = u .saves .spoiled; node = node; stored = t })
+              (record {
+                blocks = was-kept .blocks;
+                filled = le-leb (u .saves .filled + 1) (u .saves .blocks) (omega (arith, room));
+                spoiled = was-kept .spoiled;
+                node = carrying-in o (u .saves .node) (a .2) (was-kept .node);
+                stored = stored-in o;
+              });
+          journal = simp (put-length (u .saves .filled) b (u .journal) enough (block-length (u .saves .filled + 1) (originChannel o) (originKind o) t node)) fit;
         }
 
-    kept-in : (e : Change) → Allowed u e → Fits (onKept e (stores e (u .running)) (keptIn u))
+    kept-in : (e : Change) → Allowed u e → Fits (onKept e (stores e (u .running) (u .saves .stored)) (keptIn u))
     kept-in Keep a = record { saves = r .saves; journal = fit }
     kept-in (Put s v) a = record { saves = r .saves; journal = fit }
     kept-in (Zero b preset offset) a = record { saves = r .saves; journal = fit }
     kept-in Empty a = record { saves = r .saves; journal = fit }
-    kept-in (Fill c kind) a = fill-in c kind a
+    kept-in (Configure l) a = record { saves = r .saves; journal = fit }
+    kept-in (Fill o) a = fill-in o a
 
     -- the transfers: absent, at the start or after seven bytes
-    transfers-in : (c b : Channel) (next t : Transfer) → transferOk next ≡ true → transferOk t ≡ true → transferOk (onTransfer c b next t) ≡ true
-    transfers-in One One next t p q = p
-    transfers-in One Two next t p q = q
-    transfers-in Two One next t p q = q
-    transfers-in Two Two next t p q = p
+    transfers-in : (c : Caller) (b : Channel) (next t : Transfer) → transferOk next ≡ true → transferOk t ≡ true → transferOk (onTransfer c b next t) ≡ true
+    transfers-in (Client One) One next t p q = p
+    transfers-in (Client One) Two next t p q = q
+    transfers-in (Client Two) One next t p q = q
+    transfers-in (Client Two) Two next t p q = p
+    transfers-in Master b next t p q = q
 
     -- each channel's is one of the two
     own : (c : Channel) → transferOk (transferOf c u) ≡ true
     own c = every-get transferOk (transferring absent) refl (u .transfers) (right (eqb (length (u .transfers)) 2) (every transferOk (u .transfers)) (r .transfers)) (place c)
 
-    pub after-in : (c : Channel) (o : Outcome) → transferOk (o .transfer) ≡ true → Allowed u (o .change) → (inRange (stateAfter c o u) ≡ true) × (journalFits (stateAfter c o u) ≡ true)
+    pub after-in : (c : Caller) (o : Outcome) → transferOk (o .transfer) ≡ true → Allowed u (o .change) → (inRange (stateAfter c o u) ≡ true) × (journalFits (stateAfter c o u) ≡ true)
     after-in c o t a =
         let e = o .change in
         let k = kept-in e a in (
@@ -162,13 +191,14 @@ module _ (u : State) (r : InRange u) where
                 transfers = both (transfers-in c One (o .transfer) (transferOf One u) t (own One)) (both (transfers-in c Two (o .transfer) (transferOf Two u) t (own Two)) refl);
                 x = r .x;
                 y = r .y;
+                lss = lss-after e a;
               }),
           k .journal,
         )
 
 -- a request's outcome
-pub served-in : (c : Channel) (request : List ℕ) (u : State) → inRange u ≡ true → journalFits u ≡ true
-    → (inRange (stateAfter c (outcome c request u) u) ≡ true) × (journalFits (stateAfter c (outcome c request u) u) ≡ true)
+pub served-in : (c : Caller) (request : List ℕ) (u : State) → inRange u ≡ true → journalFits u ≡ true
+    → (inRange (stateAfter c (outcomeFor c request u) u) ≡ true) × (journalFits (stateAfter c (outcomeFor c request u) u) ≡ true)
 served-in c request u e fit =
     let r = parts u e in
-    after-in u r fit c (outcome c request u) (transfer-in u c request (own u r fit c)) (allowed u c request)
+    after-in u r fit c (outcomeFor c request u) (transfer-in u c request (own u r fit)) (allowed u c request (r .node) (r .lss))

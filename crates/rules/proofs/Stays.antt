@@ -20,45 +20,43 @@ use Rattle.rules.specs.declared.parts.Identity.{Identity}
 use Rattle.rules.specs.declared.parts.PdoCounts.{PdoCounts}
 use Rattle.rules.specs.declared.parts.Reading.{Reading}
 use Rattle.rules.specs.declared.parts.Saves.{Saves}
-use Rattle.rules.specs.Block.{mostBlocks}
 use Rattle.rules.specs.Errors.{noErrors, entered}
 use Rattle.rules.specs.Events.{NotRefused, event}
 use Rattle.rules.specs.Journal.{blocksIn, lengthOk}
 use Rattle.rules.specs.Network.{started, start, communicating}
-use Rattle.rules.specs.Numbers.{between}
 use Rattle.rules.specs.PowerOn.{savesIn, powerOn}
 use Rattle.rules.specs.Ranges.{inRange, nodeOk, networkOk, savesOk, errorsOk, elapsedOk, countsOk, syncsOk, axisOk}
 use Rattle.rules.specs.Readings.{faultCode, fails, onReading}
 use Rattle.rules.specs.Results.{Result}
 use Rattle.rules.specs.Settings.{synchronous, inTable, axisSettings, setting, within}
-use Rattle.rules.specs.State.{State, operational, stopped, preOperational, noCounts, moved, withNetwork}
+use Rattle.rules.specs.State.{State, operational, stopped, preOperational, noCounts, moved, withNetwork, nodeOrNone, nodeElse, lastSet}
 use Rattle.rules.specs.Time.{sending, timerRuns, syncCounts, onTick, onSync}
 use Rattle.rules.proofs.EachEvent.{each-event}
-use Rattle.rules.proofs.InRange.{InRange, parts, together}
+use Rattle.rules.proofs.InRange.{InRange, parts, together, saves-parts}
+use Rattle.rules.proofs.Nodes.{node-else, lss-in, lss-node}
 use Rattle.rules.proofs.Ranges.{no-errors-in, no-elapsed-in, no-counts-in, entered-in}
 use Rattle.rules.proofs.Run.{sized, saves-in}
 use Rattle.rules.proofs.Served.{served-in}
 use Rattle.rules.proofs.Table.{setting-in, in-table}
 use Rattle.rules.proofs.Moves.{elapsed-in, syncs-in, measured-in, code-in, none-in}
 
-stored-in : (saves : Saves) → savesOk saves ≡ true → inTable (saves .stored) ≡ true
-stored-in saves e = right (between 1 mostBlocks (saves .blocks) && leb (saves .filled) (saves .blocks) && leb (saves .spoiled) 1) (inTable (saves .stored)) e
-
 -- the device as power-on and 81h leave it
-started-in : (node : ℕ) (identity : Identity) (saves : Saves) (j : List ℕ) → nodeOk node ≡ true → savesOk saves ≡ true → inRange (started node identity saves j) ≡ true
-started-in node identity saves j n s =
-    together (started node identity saves j)
+started-in : (node : ℕ) (identity : Identity) (saves : Saves) (set : ℕ) (j : List ℕ) → nodeOk node ≡ true → savesOk saves ≡ true → nodeOrNone set ≡ true
+    → inRange (started node identity saves set j) ≡ true
+started-in node identity saves set j n s l =
+    together (started node identity saves set j)
     (record {
       node = n;
       network = refl;
       saves = s;
-      running = stored-in saves s;
+      running = saves-parts saves s .stored;
       errors = cond-both (λ (l : ErrorList). errorsOk l ≡ true) (eqb (saves .spoiled) 0) no-errors-in (entered-in 0xFF00 noErrors refl no-errors-in);
       heartbeat = no-elapsed-in (saves .stored .heartbeat);
       pdo = no-counts-in (saves .stored .pdo);
       transfers = refl;
       x = none-in;
       y = none-in;
+      lss = lss-in 0 0 set refl refl l;
     })
 
 module _ (u : State) (fine : NotRefused u) where
@@ -71,7 +69,7 @@ module _ (u : State) (fine : NotRefused u) where
       → errorsOk errors ≡ true → axisOk x ≡ true → axisOk y ≡ true → NotRefused (moved network (u .running) errors heartbeat pdo (u .transfers) x y u)
   moved-in network heartbeat pdo errors x y n h p e f g = (
     together (moved network (u .running) errors heartbeat pdo (u .transfers) x y u)
-        (record { node = is .node; network = n; saves = is .saves; running = is .running; errors = e; heartbeat = h; pdo = p; transfers = is .transfers; x = f; y = g }),
+        (record { node = is .node; network = n; saves = is .saves; running = is .running; errors = e; heartbeat = h; pdo = p; transfers = is .transfers; x = f; y = g; lss = is .lss }),
     fine .1,
   )
 
@@ -106,13 +104,20 @@ module _ (u : State) (fine : NotRefused u) where
   reading-stays Y m =
       moved-in _ _ _ _ _ _ (is .network) (is .heartbeat) (is .pdo) (errors-in Y (fails m (u .y))) (is .x) (measured-in m (u .y) (is .y))
 
+  -- the number that a reset takes
+  set : nodeOrNone (u .lss .node) ≡ true
+  set = lss-node (u .lss) (is .lss)
+
+  due : nodeOk (lastSet u) ≡ true
+  due = node-else (u .lss .node) (u .node) set (is .node)
+
   -- 82h: 1017 and 1800 of the stored settings beside the others
   communicating-stays : NotRefused (communicating u)
   communicating-stays =
-      let stored = stored-in (u .saves) (is .saves) in (
+      let stored = saves-parts (u .saves) (is .saves) .stored in (
         together (communicating u)
             (record {
-              node = is .node;
+              node = due;
               network = refl;
               saves = is .saves;
               running = in-table (communicating u .running) (mixed stored);
@@ -122,6 +127,7 @@ module _ (u : State) (fine : NotRefused u) where
               transfers = refl;
               x = is .x;
               y = is .y;
+              lss = lss-in 0 0 (u .lss .node) refl refl set;
             }),
         fine .1,
       )
@@ -142,9 +148,9 @@ module _ (u : State) (fine : NotRefused u) where
   to : (network : ℕ) (pdo : PdoCounts) → networkOk network ≡ true → countsOk (u .running .pdo) pdo ≡ true → NotRefused (withNetwork network pdo u)
   to network pdo n p = moved-in _ _ _ _ _ _ n (is .heartbeat) p (is .errors) (is .x) (is .y)
 
-  started-stays : NotRefused (start (u .node) (u .identity) (u .saves) (u .journal) .state)
+  started-stays : NotRefused (start (lastSet u) (u .identity) (u .saves) (u .lss .node) (u .journal) .state)
   unfolding start
-  started-stays = (started-in (u .node) (u .identity) (u .saves) (u .journal) (is .node) (is .saves), fine .1)
+  started-stays = (started-in (lastSet u) (u .identity) (u .saves) (u .lss .node) (u .journal) due (is .saves) set, fine .1)
 
   pub event-stays : (e : Event) (bytes : List ℕ) (length : ℕ) → NotRefused (event e bytes length u .state)
   event-stays =
@@ -174,6 +180,6 @@ unfolding powerOn start savesIn
 start-stays node identity j =
     cond-each Started (nodeOk node)
     (λ n. cond-each Started (lengthOk j)
-    (λ l e. (started-in node identity (savesIn j) j n (saves-in j l), eq-eqb (length j) (512 * blocksIn j) (sized j l .length)))
+    (λ l e. (started-in (nodeElse (savesIn j .node) node) identity (savesIn j) 0 j (node-else (savesIn j .node) node (saves-parts (savesIn j) (saves-in j l) .node) n) (saves-in j l) refl, eq-eqb (length j) (512 * blocksIn j) (sized j l .length)))
     (λ l e. never 0 e))
     (λ n e. never 3 e)

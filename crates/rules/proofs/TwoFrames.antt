@@ -13,14 +13,13 @@ use Rattle.rules.specs.declared.objects.Axis.{Axis}
 use Rattle.rules.specs.declared.objects.PdoNumber.the-variants.{First}
 use Rattle.rules.specs.declared.parts.Identity.{Identity}
 use Rattle.rules.specs.declared.parts.Saves.{Saves}
-use Rattle.rules.specs.Events.{event}
+use Rattle.rules.specs.Events.{event, outcomeFor}
 use Rattle.rules.specs.Frames.{bootUpFrame}
 use Rattle.rules.specs.Network.{start}
 use Rattle.rules.specs.PowerOn.{savesIn, powerOn}
 use Rattle.rules.specs.Readings.{fails, registerOf, withMeasured, onReading}
 use Rattle.rules.specs.Results.{Result, mostFrames}
-use Rattle.rules.specs.Service.{outcome}
-use Rattle.rules.specs.State.{State, stopped, reading}
+use Rattle.rules.specs.State.{State, stopped, reading, nodeElse, lastSet}
 use Rattle.rules.specs.Time.{whenDue, reaches, timerRuns, syncCounts, syncDue, onTick, onSync}
 use Rattle.rules.proofs.EachEvent.{each-event, power-each}
 
@@ -40,9 +39,9 @@ two-due true false f g = omega arith
 two-due false true f g = omega arith
 two-due false false f g = omega arith
 
-started : (node : ℕ) (identity : Identity) (saves : Saves) (j : List ℕ) → Few (start node identity saves j .sent)
+started : (node : ℕ) (identity : Identity) (saves : Saves) (set : ℕ) (j : List ℕ) → Few (start node identity saves set j .sent)
 unfolding start
-started node identity saves j = cond-both (λ (l : List Frame). Few (bootUpFrame node ∷ l)) (eqb (saves .spoiled) 0) (one (bootUpFrame node)) (omega arith)
+started node identity saves set j = cond-both (λ (l : List Frame). Few (bootUpFrame node ∷ l)) (eqb (saves .spoiled) 0) (one (bootUpFrame node)) (omega arith)
 
 module _ (u : State) where
   ticked : (ms : ℕ) → Few (onTick ms u .sent)
@@ -68,13 +67,13 @@ module _ (u : State) where
         operational = none;
         stopped = none;
         preOperational = none;
-        started = started (u .node) (u .identity) (u .saves) (u .journal);
-        communicated = one (bootUpFrame (u .node));
+        started = started (lastSet u) (u .identity) (u .saves) (u .lss .node) (u .journal);
+        communicated = one (bootUpFrame (lastSet u));
         synchronized = synchronized;
         ticked = ticked;
         measured = measured;
-        requested = λ c bytes. cond-both Few (outcome c bytes u .replies) (omega arith) none;
+        requested = λ c bytes. cond-both Few (outcomeFor c bytes u .replies) (omega arith) none;
       })
 
 pub power-on-sends : (node : ℕ) (identity : Identity) (j : List ℕ) → length (powerOn node identity j .sent) ≤ mostFrames
-power-on-sends node identity j = power-each (λ (r : Result). Few (r .sent)) node identity j (λ n l. started node identity (savesIn j) j) (λ number. none)
+power-on-sends node identity j = power-each (λ (r : Result). Few (r .sent)) node identity j (λ n l. started (nodeElse (savesIn j .node) node) identity (savesIn j) 0 j) (λ number. none)

@@ -9,6 +9,8 @@ use Rattle.rules.specs.declared.parts.Identity.{Identity}
 use Rattle.rules.specs.declared.parts.Lss.{Lss}
 use Rattle.rules.specs.declared.requests.Change.{Change}
 use Rattle.rules.specs.declared.requests.Change.the-variants.{Keep, Configure, Fill}
+use Rattle.rules.specs.declared.requests.IdentityPart.{IdentityPart}
+use Rattle.rules.specs.declared.requests.IdentityPart.the-variants.{Vendor, Product, Revision, Serial}
 use Rattle.rules.specs.declared.requests.LssCommand.{LssCommand}
 use Rattle.rules.specs.declared.requests.LssCommand.the-variants.{Switch, Select, SetNode, StoreNode, TellIdentity, TellNode, Unheard}
 use Rattle.rules.specs.declared.requests.Outcome.{Outcome}
@@ -25,21 +27,30 @@ use Rattle.rules.specs.Writes.{roomCheck}
 unfoldable pub lssCommandOf : ℕ → LssCommand
 lssCommandOf first =
     cond (eqb first 0x04) Switch
-    (cond (eqb first 0x40) (Select 0)
-    (cond (eqb first 0x41) (Select 1)
-    (cond (eqb first 0x42) (Select 2)
-    (cond (eqb first 0x43) (Select 3)
+    (cond (eqb first 0x40) (Select Vendor)
+    (cond (eqb first 0x41) (Select Product)
+    (cond (eqb first 0x42) (Select Revision)
+    (cond (eqb first 0x43) (Select Serial)
     (cond (eqb first 0x11) SetNode
     (cond (eqb first 0x17) StoreNode
-    (cond (eqb first 0x5A) (TellIdentity 0)
-    (cond (eqb first 0x5B) (TellIdentity 1)
-    (cond (eqb first 0x5C) (TellIdentity 2)
-    (cond (eqb first 0x5D) (TellIdentity 3)
+    (cond (eqb first 0x5A) (TellIdentity Vendor)
+    (cond (eqb first 0x5B) (TellIdentity Product)
+    (cond (eqb first 0x5C) (TellIdentity Revision)
+    (cond (eqb first 0x5D) (TellIdentity Serial)
     (cond (eqb first 0x5E) TellNode Unheard)))))))))))
 
--- "vendor, product, revision, serial" by their places
-unfoldable pub identityAt : ℕ → Identity → ℕ
-identityAt place i = cond (eqb place 0) (i .vendor) (cond (eqb place 1) (i .product) (cond (eqb place 2) (i .revision) (i .serial)))
+-- "vendor, product, revision, serial (four matches in that order …)"
+abbrev pub identityPart : IdentityPart → Identity → ℕ
+identityPart Vendor i = i .vendor
+identityPart Product i = i .product
+identityPart Revision i = i .revision
+identityPart Serial i = i .serial
+
+abbrev pub matchesBefore : IdentityPart → ℕ
+matchesBefore Vendor = 0
+matchesBefore Product = 1
+matchesBefore Revision = 2
+matchesBefore Serial = 3
 
 -- a reply of 8 bytes: the command, a number from byte 1 on, else 0; and no reply
 abbrev pub lssReply : ℕ → ℕ → List ℕ
@@ -61,9 +72,9 @@ abbrev pub matched : ℕ → Lss → Change
 matched n l = Configure (record { mode = waiting; matches = n; node = l .node })
 
 unfoldable pub onSelect : ℕ → Bool → Lss → Outcome
-onSelect place same l =
-    cond (same && (eqb place 0 || eqb (l .matches) place))
-    (cond (eqb place 3) (lssReplied 0x44 0 (Configure (record { mode = configuration; matches = 0; node = l .node }))) (lssSilent (matched (place + 1) l)))
+onSelect before same l =
+    cond (same && (eqb before 0 || eqb (l .matches) before))
+    (cond (eqb before 3) (lssReplied 0x44 0 (Configure (record { mode = configuration; matches = 0; node = l .node }))) (lssSilent (matched (before + 1) l)))
     (lssSilent (matched 0 l))
 
 -- "11h answers error 1 outside 1 to 47", and keeps the number set before
@@ -81,12 +92,12 @@ inMode mode l o = cond (eqb (l .mode) mode) o (lssSilent Keep)
 
 abbrev pub onLssCommand : LssCommand → List ℕ → State → Outcome
 onLssCommand Switch request u = onSwitch (getD request 1 0) (u .lss)
-onLssCommand (Select place) request u =
-    inMode waiting (u .lss) (onSelect place (eqb (fourAt request 1) (identityAt place (u .identity))) (u .lss))
+onLssCommand (Select p) request u =
+    inMode waiting (u .lss) (onSelect (matchesBefore p) (eqb (fourAt request 1) (identityPart p (u .identity))) (u .lss))
 onLssCommand SetNode request u = inMode configuration (u .lss) (onSetNode (getD request 1 0) (u .lss))
 onLssCommand StoreNode request u =
     inMode configuration (u .lss) (onStore (roomCheck (u .saves .spoiled) (u .saves .filled) (u .saves .blocks)) (lastSet u))
-onLssCommand (TellIdentity place) request u = inMode configuration (u .lss) (lssReplied (0x5A + place) (identityAt place (u .identity)) Keep)
+onLssCommand (TellIdentity p) request u = inMode configuration (u .lss) (lssReplied (0x5A + matchesBefore p) (identityPart p (u .identity)) Keep)
 onLssCommand TellNode request u = inMode configuration (u .lss) (lssReplied 0x5E (u .node) Keep)
 onLssCommand Unheard request u = lssSilent Keep
 

@@ -68,7 +68,7 @@ unfoldable pub axisOk : Reading → Bool
 axisOk x = leb (x .state) faulty && cond (eqb (x .state) none) (eqb (natAbs (x .m)) 0) (inside (x .m))
 
 -- LSS: mode 0 or 1, matches 0 to 3, the number set 0 to 47
-unfoldable pub lssOk : Lss → Bool
+abbrev pub lssOk : Lss → Bool
 lssOk l = leb (l .mode) configuration && leb (l .matches) 3 && nodeOrNone (l .node)
 
 -- identity is free

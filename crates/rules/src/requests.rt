@@ -21,13 +21,21 @@ pub enum Command {
     Unknown,
 }
 
-// The first byte of an LSS request. A number of the identity is named by its place, from 0.
+// The numbers of 1018, in their order.
+pub enum IdentityPart {
+    Vendor,
+    Product,
+    Revision,
+    Serial,
+}
+
+// The first byte of an LSS request.
 pub enum LssCommand {
     Switch,
-    Select(u8),
+    Select(IdentityPart),
     SetNode,
     StoreNode,
-    TellIdentity(u8),
+    TellIdentity(IdentityPart),
     TellNode,
     Unheard,
 }

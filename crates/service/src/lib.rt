@@ -3,6 +3,7 @@ use rules::aborts;
 use rules::objects::Channel;
 use rules::objects::Found;
 use rules::parts::Transfer;
+use rules::requests::Caller;
 use rules::requests::Change;
 use rules::requests::Command;
 use rules::requests::Got;
@@ -12,6 +13,7 @@ use view::View;
 use writes::Written;
 ghost use mathlib.Core.Path.{_≡_};
 ghost use Rattle.rules.specs.declared.objects.Channel.{Channel};
+ghost use Rattle.rules.specs.declared.requests.Caller.the-variants.{Client};
 ghost use Rattle.rules.specs.declared.requests.Command.the-variants.{Write, Read};
 ghost use Rattle.rules.specs.declared.requests.Change.the-variants.{Keep};
 ghost use Rattle.rules.specs.Objects.{objectAt};
@@ -198,16 +200,25 @@ pub fn transfer_of(channel: Channel, transfers: [Transfer; 2]) -> Transfer
     }
 }
 
-// The two with a channel's own another.
-pub fn transfers_after(
-    channel: Channel,
-    transfer: Transfer,
-    transfers: [Transfer; 2],
-) -> [Transfer; 2]
-    ensures { λ r. ⌜ r ≡ transfersAfter channel transfer transfers ⌝ }
+fn with_transfer(channel: Channel, transfer: Transfer, transfers: [Transfer; 2]) -> [Transfer; 2]
+    ensures { λ r. ⌜ r ≡ transfersAfter (Client channel) transfer transfers ⌝ }
 {
     match channel {
         Channel::One => [transfer, transfers[1]],
         Channel::Two => [transfers[0], transfer],
+    }
+}
+
+// The two with the caller's own another; LSS has none.
+pub fn transfers_after(
+    caller: Caller,
+    transfer: Transfer,
+    transfers: [Transfer; 2],
+) -> [Transfer; 2]
+    ensures { λ r. ⌜ r ≡ transfersAfter caller transfer transfers ⌝ }
+{
+    match caller {
+        Caller::Client(channel) => with_transfer(channel, transfer, transfers),
+        Caller::Master => transfers,
     }
 }

@@ -12,7 +12,8 @@ viewed v = record {
   node = v .node;
   identity = v .identity;
   network = v .network;
-  saves = record { blocks = v .blocks; filled = v .filled; spoiled = v .spoiled; stored = factory };
+  lss = v .lss;
+  saves = record { blocks = v .blocks; filled = v .filled; spoiled = v .spoiled; node = 0; stored = factory };
   running = v .running;
   errors = v .errors;
   heartbeat = 0;

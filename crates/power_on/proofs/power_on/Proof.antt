@@ -22,10 +22,11 @@ power-on-spec =
     (λ c.
     let node = c .before .before .before in
     simp (c .refuse2 .ensures, sym (c .before .before .length-ok .ensures) ∙ not-true _ (c .before .if2 .taken), sym (node .before .node-ok .ensures) ∙ not-false _ (node .if1 .left)))
-    (λ c. let node = c .before .before in record { fits = omega (arith, to-most 1 47 (node .before .before .before .args .node) (sym (node .before .node-ok .ensures) ∙ not-false _ (node .if1 .left))) })
     (λ c κs. sym (c .before .length-ok .ensures) ∙ not-false _ (c .if2 .left))
+    (λ c. let node = c .before .before .before in record { fits = omega (arith, to-most 1 47 (node .before .before .before .args .node) (sym (node .before .node-ok .ensures) ∙ not-false _ (node .if1 .left))) })
+    (λ c κs. search needs)
     (λ c κs. search needs)
     (λ c.
-    let length = c .before .before in
+    let length = c .before .before .before in
     let node = length .before .before in
-    simp (c .start .ensures, c .before .saves-in .ensures, sym (length .before .length-ok .ensures) ∙ not-false _ (length .if2 .left), sym (node .before .node-ok .ensures) ∙ not-false _ (node .if1 .left))))
+    simp (c .start .ensures, c .before .node-else .ensures, c .before .before .saves-in .ensures, sym (length .before .length-ok .ensures) ∙ not-false _ (length .if2 .left), sym (node .before .node-ok .ensures) ∙ not-false _ (node .if1 .left))))

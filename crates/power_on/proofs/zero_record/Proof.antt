@@ -13,7 +13,8 @@ zero-record-spec =
     (λ c κs. search needs)
     (λ c κs. search needs)
     (λ c κs. search needs)
+    (λ c κs. search needs)
     (λ c.
-    let counts = c .before .before in
+    let counts = c .before .before .before in
     let axes = counts .before .before in
-    simp (c .no-transfers .ensures, c .before .empty .ensures, counts .no-counts .ensures, counts .before .no-reading2 .ensures, axes .no-reading .ensures, axes .before .zero-settings .ensures)))
+    simp (c .no-transfers .ensures, c .before .unselected .ensures, c .before .before .empty .ensures, counts .no-counts .ensures, counts .before .no-reading2 .ensures, axes .no-reading .ensures, axes .before .zero-settings .ensures)))

@@ -1,4 +1,4 @@
--- `whole` meets its contract: two numbers in two bytes are one in four, which fits 32 bits.
+-- `whole` meets its contract: the last four bytes make its number.
 use borrow.Author.Needs.{needs}
 use Rattle.rules.specs.Numbers.{twoAt, fourAt}
 use Rattle.requests.proofs.whole.Statement.{statement}
@@ -11,12 +11,7 @@ whole-spec =
     (tie.spec
     (λ c. search needs)
     (λ c. search needs)
-    (λ c κs. search needs)
-    (λ c. search needs)
     (λ c. search needs)
     (λ c. search needs)
     (λ c κs. search needs)
-    (λ c. search needs)
-    (λ c. search needs)
-    (λ c. search needs)
-    (λ c. simp (c .before .two .ensures, c .two2 .ensures)))
+    (λ c. simp (c .four .ensures)))

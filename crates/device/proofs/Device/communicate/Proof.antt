@@ -11,4 +11,6 @@ communicate-spec =
     (λ c κs. search needs)
     (λ c κs. search needs)
     (λ c κs. search needs)
-    (λ c. simp (c .one .ensures, c .before .boot-up .ensures, c .before .before .no-transfers .ensures, c .before .before .before .no-counts .ensures, c .before .before .before .before .before .before .pre .0)))
+    (λ c κs. search needs)
+    (λ c κs. search needs)
+    (λ c. simp (c .one .ensures, c .before .boot-up .ensures, c .before .before .no-transfers .ensures, c .before .before .before .no-counts .ensures, c .before .before .before .before .unselected .ensures, c .before .before .before .before .before .node-else .ensures, c .before .before .before .before .before .before .before .before .pre .0)))

@@ -35,6 +35,7 @@ measuredAs d errors x y = record {
   saves = d .saves;
   running = d .running;
   errors = errors;
+  lss = d .lss;
   node = d .node;
   network = d .network;
   transfers = d .transfers;
