@@ -43,7 +43,7 @@ static void count_store(const struct basintilt_device *lent)
 static void count_heard(const struct basintilt_device *lent, const uint8_t *bytes)
 {
     bool waits = lent->lss.mode == BASINTILT_WAITING;
-    counts.lss_commands[lent->lss.mode * FIRST_BYTES + bytes[0]]++;
+    counts.lss_commands[lent->lss.mode * BYTE_VALUES + bytes[0]]++;
     if (waits && bytes[0] >= SELECTS && bytes[0] < SELECTED) {
         count_match(lent, bytes);
     }
@@ -148,8 +148,10 @@ static void count_frame_under(const struct basintilt_device *device, const struc
     }
 }
 
-static void count_lss_reply(const uint8_t *bytes)
+static void count_lss_reply(const struct basintilt_device *device, const uint8_t *bytes)
 {
+    bool beside_set = device->lss.node != 0 && device->lss.node != device->node;
+    counts.lss_replies[NUMBER_TOLD_BESIDE_SET] += bytes[0] == TELLS_NUMBER && beside_set;
     switch (bytes[0]) {
     case SELECTED:
         counts.lss_replies[LSS_SELECTED]++;
@@ -215,7 +217,7 @@ void count_lss(const struct pair *pair, const struct call *call)
     }
     for (unsigned i = 0; i < answer->count && i < BASINTILT_MOST_FRAMES; i++) {
         if (answer->frames[i].identifier == BASINTILT_LSS_REPLY_AT) {
-            count_lss_reply(answer->frames[i].bytes);
+            count_lss_reply(&pair->device, answer->frames[i].bytes);
         } else {
             count_frame_under(&pair->device, &answer->frames[i]);
         }

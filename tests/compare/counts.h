@@ -24,7 +24,7 @@ enum {
     SENT_KINDS
 };
 
-enum { LSS_MODES = 2, NETWORK_STATES = 3, LSS_HEADS = 10, FIRST_BYTES = 256, MATCHES = 2 * IDENTITY_NUMBERS * (BASINTILT_MOST_MATCHES + 1) };
+enum { LSS_MODES = 2, NETWORK_STATES = 3, LSS_HEADS = 10, BYTE_VALUES = 256, MATCHES = 2 * IDENTITY_NUMBERS * (BASINTILT_MOST_MATCHES + 1) };
 
 enum {
     LSS_SELECTED,
@@ -37,6 +37,7 @@ enum {
     REVISION_TOLD,
     SERIAL_TOLD,
     NUMBER_TOLD,
+    NUMBER_TOLD_BESIDE_SET, /* while another number waits for a reset */
     LSS_REPLIES
 };
 
@@ -62,7 +63,7 @@ enum { CARRYING_ORIGINS = 2 };
 enum {
     STORED_NUMBER_HOLDS,
     GIVEN_NUMBER_HOLDS,
-    LAST_BLOCK_HAS_NONE, /* and one before it has a number */
+    LAST_BLOCK_HAS_NONE, /* and the first has a number */
     LAST_BLOCK_IS_STORE,
     REFUSED_BESIDE_STORED,
     NAMED_POWER_ONS
@@ -93,13 +94,13 @@ struct counts {
     uint64_t fields_refused[FIELDS];
     uint64_t fields_refused_as_wide[FIELDS];
     uint64_t good_blocks[BLOCK_CHANNELS * BLOCK_KINDS];
-    uint64_t stored_numbers[FIRST_BYTES];
+    uint64_t stored_numbers[BYTE_VALUES];
     uint64_t bytes_behind[CHECK_AT - ZEROS_AT];
     uint64_t lss_states[NETWORK_STATES * LSS_MODES];
     uint64_t lss_heads[LSS_HEADS];
-    uint64_t lss_commands[LSS_MODES * FIRST_BYTES];
+    uint64_t lss_commands[LSS_MODES * BYTE_VALUES];
     uint64_t matches[MATCHES];
-    uint64_t numbers_to_set[FIRST_BYTES];
+    uint64_t numbers_to_set[BYTE_VALUES];
     uint64_t lss_replies[LSS_REPLIES];
     uint64_t stores[STORE_KINDS];
     uint64_t leavings[LEAVING_COMMANDS * LEAVING_KINDS];

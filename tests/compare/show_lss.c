@@ -22,7 +22,7 @@ static void show_head(unsigned which)
 
 static void show_command(unsigned which)
 {
-    printf("%02Xh in %s", which % FIRST_BYTES, which < FIRST_BYTES ? "waiting" : "configuration");
+    printf("%02Xh in %s", which % BYTE_VALUES, which < BYTE_VALUES ? "waiting" : "configuration");
 }
 
 static void show_match(unsigned which)
@@ -49,7 +49,7 @@ static void show_byte_behind(unsigned which)
 static void show_reply(unsigned which)
 {
     static const char *const names[LSS_REPLIES] = {
-        "44h", "11h success", "11h error 1", "17h success", "17h error 2", "5Ah", "5Bh", "5Ch", "5Dh", "5Eh",
+        "44h", "11h success", "11h error 1", "17h success", "17h error 2", "5Ah", "5Bh", "5Ch", "5Dh", "5Eh", "5Eh beside a number set",
     };
     printf("%s", names[which]);
 }
