@@ -83,7 +83,7 @@ static struct reference_event same_event(const struct basintilt_happening *happe
 static void make_wrong(struct pair *pair)
 {
     struct basintilt_frame *frame = &pair->expected_answer.frames[0];
-    uint8_t *behind = pair->reference_journal + (size_t)BASINTILT_BLOCK_BYTES * pair->record.saves.filled;
+    uint32_t end = BASINTILT_BLOCK_BYTES * (uint32_t)pair->record.saves.filled; /* of the block that was filled */
     bool reads_y = frame->bytes[0] == 0x4B && frame->bytes[1] == 0x20 && frame->bytes[2] == 0x60;
     bool saves = frame->bytes[0] == 0x60 && frame->bytes[1] == 0x10 && frame->bytes[2] == 0x10;
     bool stores = frame->identifier == BASINTILT_LSS_REPLY_AT && frame->bytes[0] == STORES && frame->bytes[1] == 0;
@@ -100,10 +100,10 @@ static void make_wrong(struct pair *pair)
         ((uint8_t *)&pair->expected_device)[pair->wrong_byte] ^= 1;
     }
     if (pair->fault == WRONG_JOURNAL_BYTE && saves) {
-        behind[-1] ^= 1;
+        pair->reference_journal[end - 1] ^= 1;
     }
     if (pair->fault == WRONG_STORED_NUMBER && stores) {
-        behind[28 - BASINTILT_BLOCK_BYTES] ^= 1;
+        pair->reference_journal[end - BASINTILT_BLOCK_BYTES + 28] ^= 1;
     }
     if (pair->fault == REFUSED_BUT_CHANGED && pair->answer.refusal == BASINTILT_WRONG_FRAME) {
         pair->device.identity.serial ^= 1;
