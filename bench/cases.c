@@ -3,6 +3,7 @@
 
 #define REQUEST(a, b, c, d, e, f, g, h) { BENCH_FRAME, 0x600 + BENCH_NODE, 8, { a, b, c, d, e, f, g, h }, 0 }
 #define NETWORK(command) { BENCH_FRAME, 0x000, 2, { command, BENCH_NODE }, 0 }
+#define LSS(command, number) { BENCH_FRAME, 0x7E5, 8, { command, number }, 0 }
 #define SYNC { BENCH_FRAME, 0x080, 0, { 0 }, 0 }
 #define TICK(ms) { BENCH_TICK, 0, 0, { 0 }, ms }
 #define READING(m) { BENCH_READING_X, 0, 0, { 0 }, m }
@@ -10,6 +11,8 @@
 #define BLOCK { BENCH_BLOCK, 0, 0, { 0 }, 0 }
 
 #define START NETWORK(0x01)
+#define STOP NETWORK(0x02)
+#define CONFIGURATION LSS(0x04, 1)
 #define HEARTBEAT_OF_25 REQUEST(0x2B, 0x17, 0x10, 0, 25, 0, 0, 0)
 #define READ_STRING REQUEST(0x40, 0x08, 0x10, 0, 0, 0, 0, 0)
 
@@ -31,6 +34,9 @@ const struct bench_case bench_cases[] = {
     { "write 6012", 0, 1, { READING(12345) }, REQUEST(0x2B, 0x12, 0x60, 0, 0, 0, 0, 0) },
     { "save", 0, 0, { { 0 } }, REQUEST(0x23, 0x10, 0x10, 1, 0x73, 0x61, 0x76, 0x65) },
     { "load", 0, 0, { { 0 } }, REQUEST(0x23, 0x11, 0x10, 1, 0x6C, 0x6F, 0x61, 0x64) },
+    { "LSS match", 0, 1, { STOP }, LSS(0x40, 0) },
+    { "LSS 11h", 0, 2, { STOP, CONFIGURATION }, LSS(0x11, 2) },
+    { "LSS 17h store", 0, 3, { STOP, CONFIGURATION, LSS(0x11, 2) }, LSS(0x17, 0) },
     { "SYNC, nothing due", 0, 1, { START }, SYNC },
     { "SYNC, PDO", 0, 2, { REQUEST(0x2F, 0x00, 0x18, 2, 1, 0, 0, 0), START }, SYNC },
     { "tick, nothing due", 0, 0, { { 0 } }, TICK(1) },

@@ -32,12 +32,13 @@ enum {
 /* Answers of the block query. */
 enum { BASINTILT_GOOD = 0, BASINTILT_BLANK = 1, BASINTILT_NEITHER = 2 };
 
-/* Numbers of the record: NMT states, transfers, axes. */
+/* Numbers of the record: NMT states, transfers, axes, LSS modes and the most matches of an LSS selection that is not complete. */
 enum { BASINTILT_STOPPED = 4, BASINTILT_OPERATIONAL = 5, BASINTILT_PRE_OPERATIONAL = 127 };
 enum { BASINTILT_ABSENT = 0, BASINTILT_AT_START = 1, BASINTILT_AFTER_SEVEN = 2 };
 enum { BASINTILT_NONE = 0, BASINTILT_GOOD_AXIS = 1, BASINTILT_FAULTY = 2 };
+enum { BASINTILT_WAITING = 0, BASINTILT_CONFIGURATION = 1, BASINTILT_MOST_MATCHES = 3 };
 
-/* Where frames come and go; each but NMT and SYNC has the node added. */
+/* Where frames come and go; each but NMT, SYNC and the two of LSS has the node added. */
 enum {
     BASINTILT_NMT_AT = 0x000,
     BASINTILT_SYNC_AT = 0x080,
@@ -47,7 +48,9 @@ enum {
     BASINTILT_REQUEST_ONE_AT = 0x600,
     BASINTILT_REQUEST_TWO_AT = 0x680,
     BASINTILT_REPLY_TWO_AT = 0x6B0,
-    BASINTILT_HEARTBEAT_AT = 0x700
+    BASINTILT_HEARTBEAT_AT = 0x700,
+    BASINTILT_LSS_REPLY_AT = 0x7E4,
+    BASINTILT_LSS_REQUEST_AT = 0x7E5
 };
 
 /* Codes of the error list and of EMCY. */
@@ -125,12 +128,20 @@ struct basintilt_transfer {
     uint8_t stage;
 };
 
-/* What the record keeps of the journal; spoiled is 1 or 0. */
+/* What the record keeps of the journal; spoiled is 1 or 0, node the stored node number: 0 where none is, and then the one given at power-on holds. */
 struct basintilt_saves {
     uint16_t blocks;
     uint16_t filled;
-    uint16_t spoiled;
+    uint8_t spoiled;
+    uint8_t node;
     struct basintilt_settings stored;
+};
+
+/* The LSS slave: its mode, the matches so far, and the node number that was set, 0 where none was: a reset brings it into force. */
+struct basintilt_lss {
+    uint16_t mode;
+    uint8_t matches;
+    uint8_t node;
 };
 
 /* The error list, newest first; 0 past its length. */
@@ -145,6 +156,7 @@ struct basintilt_reading {
     int32_t m;
 };
 
+/* The node is the number in force. */
 struct basintilt_device {
     struct basintilt_identity identity;
     struct basintilt_reading x;
@@ -154,6 +166,7 @@ struct basintilt_device {
     struct basintilt_saves saves;
     struct basintilt_settings running;
     struct basintilt_errors errors;
+    struct basintilt_lss lss;
     uint8_t node;
     uint8_t network;
     struct basintilt_transfer transfers[BASINTILT_CHANNELS];
@@ -221,8 +234,12 @@ BASINTILT_LONG(transfer, 1, BASINTILT_BYTES(transfer, stage));
 BASINTILT_AT(transfer, stage, 0);
 
 BASINTILT_LONG(saves, 30, BASINTILT_BYTES(saves, blocks) + BASINTILT_BYTES(saves, filled) + BASINTILT_BYTES(saves, spoiled)
-               + BASINTILT_BYTES(saves, stored));
-BASINTILT_AT(saves, blocks, 0); BASINTILT_AT(saves, filled, 2); BASINTILT_AT(saves, spoiled, 4); BASINTILT_AT(saves, stored, 6);
+               + BASINTILT_BYTES(saves, node) + BASINTILT_BYTES(saves, stored));
+BASINTILT_AT(saves, blocks, 0); BASINTILT_AT(saves, filled, 2); BASINTILT_AT(saves, spoiled, 4); BASINTILT_AT(saves, node, 5);
+BASINTILT_AT(saves, stored, 6);
+
+BASINTILT_LONG(lss, 4, BASINTILT_BYTES(lss, mode) + BASINTILT_BYTES(lss, matches) + BASINTILT_BYTES(lss, node));
+BASINTILT_AT(lss, mode, 0); BASINTILT_AT(lss, matches, 2); BASINTILT_AT(lss, node, 3);
 
 BASINTILT_LONG(errors, 12, BASINTILT_BYTES(errors, length) + BASINTILT_BYTES(errors, codes));
 BASINTILT_AT(errors, length, 0); BASINTILT_AT(errors, codes, 2);
@@ -230,13 +247,13 @@ BASINTILT_AT(errors, length, 0); BASINTILT_AT(errors, codes, 2);
 BASINTILT_LONG(reading, 8, BASINTILT_BYTES(reading, state) + BASINTILT_BYTES(reading, m));
 BASINTILT_AT(reading, state, 0); BASINTILT_AT(reading, m, 4);
 
-BASINTILT_LONG(device, 108, BASINTILT_BYTES(device, identity) + BASINTILT_BYTES(device, x) + BASINTILT_BYTES(device, y)
+BASINTILT_LONG(device, 112, BASINTILT_BYTES(device, identity) + BASINTILT_BYTES(device, x) + BASINTILT_BYTES(device, y)
                + BASINTILT_BYTES(device, heartbeat) + BASINTILT_BYTES(device, pdo) + BASINTILT_BYTES(device, saves)
-               + BASINTILT_BYTES(device, running) + BASINTILT_BYTES(device, errors) + BASINTILT_BYTES(device, node)
-               + BASINTILT_BYTES(device, network) + BASINTILT_BYTES(device, transfers));
+               + BASINTILT_BYTES(device, running) + BASINTILT_BYTES(device, errors) + BASINTILT_BYTES(device, lss)
+               + BASINTILT_BYTES(device, node) + BASINTILT_BYTES(device, network) + BASINTILT_BYTES(device, transfers));
 BASINTILT_AT(device, identity, 0); BASINTILT_AT(device, x, 16); BASINTILT_AT(device, y, 24); BASINTILT_AT(device, heartbeat, 32);
 BASINTILT_AT(device, pdo, 34); BASINTILT_AT(device, saves, 38); BASINTILT_AT(device, running, 68); BASINTILT_AT(device, errors, 92);
-BASINTILT_AT(device, node, 104); BASINTILT_AT(device, network, 105); BASINTILT_AT(device, transfers, 106);
+BASINTILT_AT(device, lss, 104); BASINTILT_AT(device, node, 108); BASINTILT_AT(device, network, 109); BASINTILT_AT(device, transfers, 110);
 
 BASINTILT_LONG(frame, 12, BASINTILT_BYTES(frame, identifier) + BASINTILT_BYTES(frame, length) + BASINTILT_BYTES(frame, bytes));
 BASINTILT_AT(frame, identifier, 0); BASINTILT_AT(frame, length, 2); BASINTILT_AT(frame, bytes, 4);
@@ -244,8 +261,8 @@ BASINTILT_AT(frame, identifier, 0); BASINTILT_AT(frame, length, 2); BASINTILT_AT
 BASINTILT_LONG(answer, 28, BASINTILT_BYTES(answer, refusal) + BASINTILT_BYTES(answer, count) + BASINTILT_BYTES(answer, frames));
 BASINTILT_AT(answer, refusal, 0); BASINTILT_AT(answer, count, 2); BASINTILT_AT(answer, frames, 4);
 
-BASINTILT_LONG(stepped, 136, BASINTILT_BYTES(stepped, device) + BASINTILT_BYTES(stepped, answer));
-BASINTILT_AT(stepped, device, 0); BASINTILT_AT(stepped, answer, 108);
+BASINTILT_LONG(stepped, 140, BASINTILT_BYTES(stepped, device) + BASINTILT_BYTES(stepped, answer));
+BASINTILT_AT(stepped, device, 0); BASINTILT_AT(stepped, answer, 112);
 
 BASINTILT_LONG(happening, 20, BASINTILT_BYTES(happening, kind) + BASINTILT_BYTES(happening, length) + BASINTILT_BYTES(happening, ms)
                + BASINTILT_BYTES(happening, identifier) + BASINTILT_BYTES(happening, m) + BASINTILT_BYTES(happening, bytes));
@@ -256,10 +273,11 @@ BASINTILT_AT(happening, identifier, 4); BASINTILT_AT(happening, m, 8); BASINTILT
 #undef BASINTILT_LONG
 #undef BASINTILT_AT
 
-/* The record that the journal gives, and boot-up; a refused power-on gives the all-zero record. The journal is only read. */
+/* The record that the journal gives, and boot-up; a refused power-on gives the all-zero record. The journal is only read.
+ * The node given has to be 1 to 47, also where the journal has a stored one, which then holds. */
 struct basintilt_stepped basintilt_power_on(uint32_t node, struct basintilt_identity identity, const uint8_t *journal, size_t journal_length);
 
-/* One event: the record behind the pointer is updated; a save or a load fills one block of the journal. */
+/* One event: the record behind the pointer is updated; a save, a load or a store by LSS fills one block of the journal. */
 struct basintilt_answer basintilt_event(struct basintilt_device *device, uint8_t *journal, size_t journal_length, struct basintilt_happening happening);
 
 /* What a block is at the place it should have, counted from 1. */

@@ -1,11 +1,11 @@
-/* Runs the paper's sample input through the C interface: power-on, events, the lent record and the block query. */
+/* Runs the paper's sample input through the C interface, then gives the sensor a number by LSS: power-on, events, the lent record and the block query. */
 #include "basintilt.h"
 
 int printf(const char *, ...);
 void *memset(void *, int, size_t);
 int memcmp(const void *, const void *, size_t);
 
-enum { NODE = 1, FIRST = BASINTILT_REQUEST_ONE_AT + NODE, SECOND = BASINTILT_REQUEST_TWO_AT + NODE };
+enum { NODE = 1, FIRST = BASINTILT_REQUEST_ONE_AT + NODE, SECOND = BASINTILT_REQUEST_TWO_AT + NODE, NEW_NODE = 0x29 };
 
 static uint8_t journal[2 * BASINTILT_BLOCK_BYTES];
 static struct basintilt_device device;
@@ -47,11 +47,44 @@ static void happens(struct basintilt_happening happening)
     show(basintilt_event(&device, journal, sizeof journal, happening));
 }
 
+static void commands(uint8_t command)
+{
+    happens((struct basintilt_happening){.kind = BASINTILT_FRAME, .identifier = BASINTILT_NMT_AT, .length = 2, .bytes = {command, NODE}});
+}
+
+static void configures(uint8_t command, uint8_t number)
+{
+    happens((struct basintilt_happening){.kind = BASINTILT_FRAME, .identifier = BASINTILT_LSS_REQUEST_AT, .length = 8, .bytes = {command, number}});
+}
+
 static void asks(uint32_t identifier, uint8_t first, uint16_t index, uint8_t subindex, uint32_t value)
 {
     uint8_t low[4] = {(uint8_t)value, (uint8_t)(value >> 8), (uint8_t)(value >> 16), value >> 24};
     happens((struct basintilt_happening){.kind = BASINTILT_FRAME, .identifier = identifier, .length = 8,
                                          .bytes = {first, (uint8_t)index, index >> 8, subindex, low[0], low[1], low[2], low[3]}});
+}
+
+static void starts(uint32_t node)
+{
+    struct basintilt_stepped stepped = basintilt_power_on(node, (struct basintilt_identity){1, 2, 3, 4}, journal, sizeof journal);
+    device = stepped.device;
+    show(stepped.answer);
+}
+
+/* A number is set and stored, in force behind the reset, and behind a power-on that gives the old one. */
+static void gets_number(void)
+{
+    const uint8_t *stored = journal + BASINTILT_BLOCK_BYTES;
+    commands(0x02);
+    configures(0x04, BASINTILT_CONFIGURATION);
+    configures(0x11, NEW_NODE);
+    configures(0x17, 0);
+    configures(0x5E, 0);
+    check(device.node == NODE && device.lss.node == NEW_NODE && device.saves.node == NEW_NODE, "the number is set and stored, not in force");
+    check(basintilt_block(stored, BASINTILT_BLOCK_BYTES, 2) == BASINTILT_GOOD && stored[28] == NEW_NODE, "the stored block is good and has the number");
+    commands(0x82);
+    starts(NODE);
+    check(device.node == NEW_NODE && device.lss.node == 0 && device.saves.filled == 2, "power-on goes by the stored number");
 }
 
 static void is_refused(void)
@@ -65,10 +98,8 @@ int main(void)
 {
     memset(journal, 0xFF, sizeof journal);
     check(basintilt_block(journal, BASINTILT_BLOCK_BYTES, 1) == BASINTILT_BLANK, "a fresh block is blank");
-    struct basintilt_stepped stepped = basintilt_power_on(NODE, (struct basintilt_identity){1, 2, 3, 4}, journal, sizeof journal);
-    device = stepped.device;
-    show(stepped.answer);
-    happens((struct basintilt_happening){.kind = BASINTILT_FRAME, .identifier = BASINTILT_NMT_AT, .length = 2, .bytes = {0x01, NODE}});
+    starts(NODE);
+    commands(0x01);
     happens((struct basintilt_happening){.kind = BASINTILT_READING_X, .m = 12345});
     asks(FIRST, 0x40, 0x6010, 0, 0);
     asks(SECOND, 0x40, 0x6010, 0, 0);
@@ -80,14 +111,17 @@ int main(void)
     check(basintilt_block(journal + BASINTILT_BLOCK_BYTES, BASINTILT_BLOCK_BYTES, 2) == BASINTILT_BLANK, "the next block is blank still");
     check(device.saves.filled == 1 && device.identity.serial == 4 && device.x.m == 12345, "the record is updated");
     happens((struct basintilt_happening){.kind = 99, .identifier = 0xFFFF, .length = 200});
+    gets_number();
     device.x.state += 0x100; /* the low byte alone would be in range */
     is_refused();
     device.x.state -= 0x100;
+    device.lss.mode += 0x100;
+    is_refused();
+    device.lss.mode -= 0x100;
     device.node = BASINTILT_MOST_NODE + 1;
     is_refused();
-    stepped = basintilt_power_on(BASINTILT_MOST_NODE + 1, (struct basintilt_identity){1, 2, 3, 4}, journal, sizeof journal);
-    show(stepped.answer);
-    check(all_zero(&stepped.device, &stepped.device + 1), "a refused power-on gives the all-zero record");
+    starts(BASINTILT_MOST_NODE + 1);
+    check(all_zero(&device, &device + 1), "a refused power-on gives the all-zero record");
     printf("%d failures\n", failures);
     return failures != 0;
 }

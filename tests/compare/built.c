@@ -1,50 +1,15 @@
 /* Built cases: every one of a kind, in order. */
 #include "built.h"
 
+#include "built_lss.h"
 #include "happenings.h"
-#include "history.h"
-#include "journals.h"
 #include "requests.h"
-
-enum { BLOCK = BASINTILT_BLOCK_BYTES, NODE = 47 };
+#include "steps.h"
 
 /* Of the longest rows (indices, values of two bytes, types) one in so many is made. */
 static uint32_t stride = 1;
 
-static bool power_on_as(uint32_t node, uint32_t length)
-{
-    return make_call((struct call){.kind = POWER_ON, .length = length, .power_on = {node, {1, 2, 3, 4}}});
-}
-
-static bool power_on_over(uint32_t length)
-{
-    return power_on_as(NODE, length);
-}
-
-static bool make_shape(enum journal_shape shape, uint32_t length, uint64_t seed)
-{
-    return make_call((struct call){.kind = JOURNAL_MADE, .length = length, .made = {shape, seed}});
-}
-
-static bool ask(uint32_t at, uint32_t length, uint32_t place)
-{
-    return make_call((struct call){.kind = BLOCK_QUERY, .length = length, .query = {at, place}});
-}
-
-static bool write_byte(uint32_t at, uint32_t number)
-{
-    return make_call((struct call){.kind = BYTE_WRITTEN, .written = {at, number}});
-}
-
-/* An Operational sensor with two good axes on a blank journal. */
-static bool fresh_sensor(void)
-{
-    begin_history();
-    return power_on_over(4 * BLOCK) && make_event(network_command(0x01, NODE)) && make_event(reading_of(BASINTILT_READING_X, 12345))
-           && make_event(reading_of(BASINTILT_READING_Y, -54321));
-}
-
-/* The same with a SYNC counted and a full error list, so that more of its fields are not 0. */
+/* A fresh sensor with a SYNC counted and a full error list, so that more of its fields are not 0. */
 static bool busy_sensor(void)
 {
     bool same = fresh_sensor() && make_event(request(NODE, 0, 0x2F, 0x1800, 2, BASINTILT_MOST_SYNCHRONOUS)) && make_event(sync_frame());
@@ -62,10 +27,8 @@ static bool every_journal(void)
     for (unsigned i = 0; i < 4 * JOURNAL_SHAPES * 7 && same; i++) {
         uint32_t length = BLOCK * blocks[i % 7];
         begin_history();
-        same = make_shape((enum journal_shape)(i / 7 % JOURNAL_SHAPES), length, i) && power_on_over(length)
-               && make_event(request(NODE, 0, 0x23, 0x1010, 1, BASINTILT_SAVE))
-               && make_event(request(NODE, 1, 0x23, 0x1011, 1, BASINTILT_LOAD)) && make_event(network_command(0x81, 0))
-               && make_event(network_command(0x82, NODE)) && power_on_over(length);
+        same = make_shape((enum journal_shape)(i / 7 % JOURNAL_SHAPES), length, i) && power_on_over(length) && save() && load()
+               && make_event(network_command(0x81, 0)) && order(0x82) && power_on_over(length);
     }
     return same;
 }
@@ -251,5 +214,5 @@ bool built_cases(uint32_t one_in_so_many)
     stride = one_in_so_many;
     return every_journal() && every_bit_and_stop() && every_number() && every_query() && every_length() && every_node()
            && every_head() && every_command() && every_first_byte() && every_object() && every_value() && every_type()
-           && every_field();
+           && every_field() && built_lss_cases();
 }

@@ -119,6 +119,7 @@ void count_call(const struct pair *pair, const struct call *call)
     count_with_last(pair, call);
     if (call->kind == BLOCK_QUERY) {
         counts.queries[pair->block_answer % 3]++;
+        count_block(pair, call);
     }
     if (call->kind != POWER_ON && call->kind != EVENT) {
         return;
@@ -128,6 +129,7 @@ void count_call(const struct pair *pair, const struct call *call)
     }
     (call->kind == EVENT ? counts.event_refusals : counts.power_on_refusals)[answer->refusal % REFUSALS]++;
     counts.frames_at_once[answer->count % (BASINTILT_MOST_FRAMES + 1)]++;
+    count_lss(pair, call);
     for (unsigned i = 0; i < answer->count && i < BASINTILT_MOST_FRAMES; i++) {
         count_frame(call, &answer->frames[i], pair->device.node);
     }

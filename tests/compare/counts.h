@@ -3,6 +3,7 @@
 #define COMPARE_COUNTS_H
 
 #include "journals.h"
+#include "lss.h"
 #include "objects.h"
 #include "pair.h"
 
@@ -23,6 +24,58 @@ enum {
     SENT_KINDS
 };
 
+enum { LSS_MODES = 2, NETWORK_STATES = 3, LSS_HEADS = 10, BYTE_VALUES = 256, MATCHES = 2 * IDENTITY_NUMBERS * (BASINTILT_MOST_MATCHES + 1) };
+
+enum {
+    LSS_SELECTED,
+    NUMBER_TAKEN,
+    NUMBER_REFUSED,
+    STORE_DONE,
+    STORE_REFUSED,
+    VENDOR_TOLD,
+    PRODUCT_TOLD,
+    REVISION_TOLD,
+    SERIAL_TOLD,
+    NUMBER_TOLD,
+    NUMBER_TOLD_BESIDE_SET, /* while another number waits for a reset */
+    LSS_REPLIES
+};
+
+enum {
+    STORES_NUMBER_SET,
+    STORES_RUNNING_NUMBER,
+    STORES_OVER_ANOTHER,
+    STORES_BESIDE_CHANGED_SETTINGS,
+    STORE_INTO_SPOILED,
+    STORE_INTO_FULL,
+    STORE_INTO_SPOILED_AND_FULL,
+    STORE_KINDS
+};
+
+/* What LSS was doing when a command of the network ended Stopped. */
+enum { IN_CONFIGURATION, WITH_MATCHES, WITH_NUMBER_SET, WITH_NUMBER_IN_FORCE, WITH_ANOTHER_STORED, LEAVING_KINDS };
+enum { LEAVING_COMMANDS = 4 };
+
+/* What a save or a load carries on: a number other than the one in force and the one set, or none where one is set. */
+enum { CARRIES_ANOTHER, CARRIES_NONE, CARRYING_KINDS };
+enum { CARRYING_ORIGINS = 2 };
+
+enum {
+    STORED_NUMBER_HOLDS,
+    GIVEN_NUMBER_HOLDS,
+    LAST_BLOCK_HAS_NONE, /* and the first has a number */
+    LAST_BLOCK_IS_STORE,
+    REFUSED_BESIDE_STORED,
+    NAMED_POWER_ONS
+};
+
+/* Frames under a number that LSS set, and under a stored one. */
+enum { BOOT_UP_UNDER, HEARTBEAT_UNDER, PDO_UNDER, EMCY_UNDER, REPLY_ONE_UNDER, REPLY_TWO_UNDER, FRAMES_UNDER };
+enum { NUMBER_SOURCES = 2 };
+
+/* Bytes of a block: the channel, the kind, the stored number, and the zeros behind it up to the check; channels and kinds are 1 to 3. */
+enum { CHANNEL_AT = 4, KIND_AT = 5, NUMBER_AT = 28, ZEROS_AT = 29, CHECK_AT = 510, BLOCK_CHANNELS = 3, BLOCK_KINDS = 3 };
+
 struct counts {
     uint64_t calls[CALL_KINDS];
     uint64_t events[EVENT_KINDS];
@@ -40,15 +93,39 @@ struct counts {
     uint64_t journals[JOURNAL_SHAPES * LENGTH_CLASSES];
     uint64_t fields_refused[FIELDS];
     uint64_t fields_refused_as_wide[FIELDS];
+    uint64_t good_blocks[BLOCK_CHANNELS * BLOCK_KINDS];
+    uint64_t stored_numbers[BYTE_VALUES];
+    uint64_t bytes_behind[CHECK_AT - ZEROS_AT];
+    uint64_t lss_states[NETWORK_STATES * LSS_MODES];
+    uint64_t lss_heads[LSS_HEADS];
+    uint64_t lss_commands[LSS_MODES * BYTE_VALUES];
+    uint64_t matches[MATCHES];
+    uint64_t numbers_to_set[BYTE_VALUES];
+    uint64_t lss_replies[LSS_REPLIES];
+    uint64_t stores[STORE_KINDS];
+    uint64_t leavings[LEAVING_COMMANDS * LEAVING_KINDS];
+    uint64_t carryings[CARRYING_ORIGINS * CARRYING_KINDS];
+    uint64_t named_power_ons[NAMED_POWER_ONS];
+    uint64_t frames_under[NUMBER_SOURCES * FRAMES_UNDER];
+    uint64_t reads_under[OBJECTS];
 };
 
 extern struct counts counts;
 extern const uint32_t abort_codes[ABORTS];
 extern const uint8_t reply_firsts[REPLIES];
 
+extern const uint8_t leaving_commands[LEAVING_COMMANDS];
+
 void count_call(const struct pair *pair, const struct call *call);
+
+/* What a power-on or an event says of LSS and of the node number. */
+void count_lss(const struct pair *pair, const struct call *call);
+
+/* The channel, the kind and the number of a block that was asked about. */
+void count_block(const struct pair *pair, const struct call *call);
 
 /* Prints all counts; false where something was never reached. */
 bool show_counts(void);
+bool show_lss_counts(void);
 
 #endif

@@ -1,15 +1,17 @@
-/* Events: requests, network commands, SYNC, ticks, readings and frames that no rule names. */
+/* Events: service and LSS requests, network commands, SYNC, ticks, readings and frames that no rule names. */
 #include "happenings.h"
 
+#include "lss.h"
 #include "requests.h"
 
-enum turn { REQUEST, NETWORK, SYNC, TICK, MEASURED, STRAY_FRAME, REMOTE, NO_KIND, TURNS };
+enum turn { REQUEST, LSS_REQUEST, NETWORK, SYNC, TICK, MEASURED, STRAY_FRAME, REMOTE, NO_KIND, TURNS };
 
 static const uint8_t weights[LEANINGS][TURNS] = {
-    [EVEN] = {50, 8, 8, 14, 12, 5, 2, 1},
-    [SERVICE] = {85, 3, 1, 2, 5, 2, 1, 1},
-    [TIME] = {20, 6, 30, 36, 4, 2, 1, 1},
-    [READING] = {25, 6, 4, 6, 55, 2, 1, 1},
+    [EVEN] = {46, 4, 8, 8, 14, 12, 5, 2, 1},
+    [SERVICE] = {84, 1, 3, 1, 2, 5, 2, 1, 1},
+    [TIME] = {19, 1, 6, 30, 36, 4, 2, 1, 1},
+    [READING] = {24, 1, 6, 4, 6, 55, 2, 1, 1},
+    [NAMING] = {14, 52, 20, 1, 3, 4, 3, 2, 1},
 };
 
 struct basintilt_happening network_command(uint32_t command, uint32_t node)
@@ -35,13 +37,15 @@ struct basintilt_happening reading_of(unsigned kind, int32_t m)
     return (struct basintilt_happening){.kind = (uint8_t)kind, .m = m};
 }
 
-/* A sensor that is not Operational is started more often than not: most rules are asleep in it. */
-static struct basintilt_happening any_command(struct chance *chance, const struct basintilt_device *device)
+/* A sensor is brought to Operational more often than not, since most rules are asleep elsewhere; to Stopped where LSS is to be heard. */
+static struct basintilt_happening any_command(struct chance *chance, const struct basintilt_device *device, enum leaning leaning)
 {
-    uint32_t command = PICK(chance, 0x01, 0x01, 0x02, 0x80, 0x81, 0x82, 0x01, any32(chance));
-    uint32_t node = PICK(chance, 0, device->node, device->node, device->node, device->node + 1u, any32(chance));
-    if (device->network != BASINTILT_OPERATIONAL && one_in(chance, 2)) {
-        return network_command(0x01, device->node);
+    uint8_t wanted = leaning == NAMING ? BASINTILT_STOPPED : BASINTILT_OPERATIONAL;
+    uint32_t bring = leaning == NAMING ? 0x02 : 0x01;
+    uint32_t command = PICK(chance, 0x01, bring, bring, 0x02, 0x80, 0x81, 0x82, any32(chance));
+    uint32_t node = PICK(chance, 0, device->node, device->node, device->node, device->node + 1u, device->lss.node, any32(chance));
+    if (device->network != wanted && one_in(chance, 2)) {
+        return network_command(bring, device->node);
     }
     return network_command(command, node);
 }
@@ -68,8 +72,8 @@ static struct basintilt_happening any_reading(struct chance *chance, const struc
 
 static uint32_t any_identifier(struct chance *chance, const struct basintilt_device *device)
 {
-    uint32_t base = PICK(chance, 0, 0x80, 0x100, 0x180, 0x580, 0x600, 0x680, 0x6B0, 0x700, 0x7E5);
-    uint32_t node = PICK(chance, 0, device->node, device->node, device->node + 1u, below(chance, 128));
+    uint32_t base = PICK(chance, 0, 0x80, 0x100, 0x180, 0x580, 0x600, 0x680, 0x6B0, 0x700, 0x7E4, 0x7E5);
+    uint32_t node = PICK(chance, 0, device->node, device->node, device->node + 1u, device->lss.node, device->saves.node, below(chance, 128));
     if (one_in(chance, 4)) {
         return PICK(chance, 0x7FF, 0x800, 0x7FE, 0xFFFFFFFF, 0x80000000, below(chance, 0x800), any32(chance));
     }
@@ -84,12 +88,14 @@ static uint8_t any_length(struct chance *chance)
 /* A frame that some rule names. */
 static struct basintilt_happening any_named(struct chance *chance, const struct basintilt_device *device)
 {
-    switch (below(chance, 5)) {
+    switch (below(chance, 6)) {
     case 0:
         return sync_frame();
     case 1:
     case 2:
-        return any_command(chance, device);
+        return any_command(chance, device, EVEN);
+    case 3:
+        return any_lss_request(chance, device);
     default:
         return any_request(chance, device);
     }
@@ -116,14 +122,16 @@ static struct basintilt_happening remote_frame(struct chance *chance, const stru
     return frame;
 }
 
-static struct basintilt_happening by_turn(struct chance *chance, const struct basintilt_device *device, enum turn turn)
+static struct basintilt_happening by_turn(struct chance *chance, const struct basintilt_device *device, enum leaning leaning, enum turn turn)
 {
     struct basintilt_happening happening;
     switch (turn) {
     case REQUEST:
         return any_request(chance, device);
+    case LSS_REQUEST:
+        return any_lss_request(chance, device);
     case NETWORK:
-        return any_command(chance, device);
+        return any_command(chance, device, leaning);
     case SYNC:
         return sync_frame();
     case TICK:
@@ -171,7 +179,7 @@ struct basintilt_happening any_happening(struct chance *chance, const struct bas
         rest -= weights[leaning][turn];
         turn++;
     }
-    happening = by_turn(chance, device, (enum turn)turn);
+    happening = by_turn(chance, device, leaning, (enum turn)turn);
     if (one_in(chance, 4)) {
         fill_unused(chance, &happening);
     }

@@ -1,4 +1,4 @@
-/* Events: requests, network commands, SYNC, ticks, readings and frames that no rule names. */
+/* Events: service and LSS requests, network commands, SYNC, ticks, readings and frames that no rule names. */
 #ifndef COMPARE_HAPPENINGS_H
 #define COMPARE_HAPPENINGS_H
 
@@ -6,7 +6,7 @@
 #include "chance.h"
 
 /* What a history has most of. */
-enum leaning { EVEN, SERVICE, TIME, READING, LEANINGS };
+enum leaning { EVEN, SERVICE, TIME, READING, NAMING, LEANINGS };
 
 struct basintilt_happening any_happening(struct chance *chance, const struct basintilt_device *device, enum leaning leaning);
 

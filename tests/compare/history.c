@@ -21,8 +21,11 @@ bool make_call(struct call call)
     history.calls[history.count] = call;
     history.count++;
     history.difference = perform(&pair, &call);
+    if (history.difference.what != NULL) {
+        return false;
+    }
     count_call(&pair, &call);
-    return history.difference.what == NULL;
+    return true;
 }
 
 /* The journal's length is said as the record has it. */

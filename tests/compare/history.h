@@ -18,7 +18,7 @@ extern struct history history;
 
 void begin_history(void);
 
-/* Makes a call to both, keeps and counts it; false where they differ. */
+/* Makes a call to both and keeps it, and counts it where they agree; false where they differ. */
 bool make_call(struct call call);
 
 bool make_event(struct basintilt_happening happening);

@@ -42,8 +42,8 @@ void make_block(struct chance *chance, uint8_t *block, uint32_t place)
     struct basintilt_settings settings = any_settings(chance);
     memset(block, 0, BLOCK);
     put(block, place, 4);
-    block[4] = (uint8_t)between(chance, 1, 2);
-    block[5] = (uint8_t)between(chance, 1, 2);
+    block[4] = (uint8_t)between(chance, 1, 3);
+    block[5] = (uint8_t)between(chance, 1, 3);
     put(block + 6, settings.heartbeat, 2);
     block[8] = settings.pdo.on;
     block[9] = settings.pdo.transmission;
@@ -53,15 +53,16 @@ void make_block(struct chance *chance, uint8_t *block, uint32_t place)
     block[15] = (uint8_t)settings.y.operating;
     put_angles(block + 16, &settings.x);
     put_angles(block + 22, &settings.y);
+    block[28] = any_stored_node(chance);
     seal_block(block);
 }
 
 /* One byte ahead of the check is changed and the check made right again: mostly a field that is then out of range. */
 static void make_wrong_block(struct chance *chance, uint8_t *block, uint32_t place)
 {
-    uint32_t at = PICK(chance, 0, 1, 3, 4, 5, 6, 7, 8, 9, 12, 13, 14, 15, 28, 509, between(chance, 28, 509));
+    uint32_t at = PICK(chance, 0, 1, 3, 4, 5, 6, 7, 8, 9, 12, 13, 14, 15, 28, 28, 29, 509, between(chance, 29, 509));
     make_block(chance, block, place);
-    block[at] = (uint8_t)PICK(chance, 0, 1, 2, 3, 4, 24, 240, 241, 253, 255, any32(chance));
+    block[at] = (uint8_t)PICK(chance, 0, 1, 2, 3, 4, 24, 47, 48, 240, 241, 253, 255, any32(chance));
     seal_block(block);
 }
 
@@ -94,7 +95,7 @@ static void make_stray(struct chance *chance, uint8_t *block, uint32_t place)
 
 static void make_half_written(struct chance *chance, uint8_t *block, uint32_t place)
 {
-    uint32_t written = PICK(chance, 1, 4, 27, 28, 510, 511, below(chance, BLOCK));
+    uint32_t written = PICK(chance, 1, 4, 27, 28, 29, 510, 511, below(chance, BLOCK));
     make_block(chance, block, place);
     memset(block + written, 0xFF, BLOCK - written);
 }

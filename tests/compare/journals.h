@@ -23,7 +23,7 @@ extern const char *const shape_names[JOURNAL_SHAPES];
 
 void make_journal(uint8_t *journal, uint32_t length, enum journal_shape shape, uint64_t seed);
 
-/* A good block for its place, with any settings that are in range. */
+/* A good block for its place, with any channel, kind, settings and stored node number that are in range. */
 void make_block(struct chance *chance, uint8_t *block, uint32_t place);
 
 /* Writes the check of the 510 bytes before it. */

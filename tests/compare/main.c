@@ -34,30 +34,62 @@ static bool compare(uint64_t events, uint64_t seed, uint32_t stride)
     return show_counts();
 }
 
-/* Something is made wrong: the difference must be seen, and shown by a few calls. */
-static bool sees_fault(enum fault fault)
+/* Whether a random history shows what is made wrong. */
+static bool is_seen(enum fault fault)
 {
     bool same = true;
-    static const char *const names[FAULTS] = {
-        [WRONG_FRAME_BYTE] = "the reference says another byte of a frame",
-        [WRONG_BYTE_PAST_LENGTH] = "the reference says a byte past a frame's length",
-        [WRONG_BYTE_PAST_COUNT] = "the reference says a byte past the count of frames",
-        [WRONG_FIELD] = "the reference says another field",
-        [WRONG_HIGH_BYTE] = "the reference says another high byte of a field",
-        [WRONG_JOURNAL_BYTE] = "the reference writes another byte of the journal",
-        [REFUSED_BUT_CHANGED] = "both sensors change a record that they refuse",
-    };
-    printf("wrong on purpose: %s: ", names[fault]);
     pair.fault = fault;
     for (uint64_t seed = 0; same && seed < 1000; seed++) {
         same = wander(seed);
     }
-    if (same) {
+    return !same;
+}
+
+/* Something is made wrong: the difference must be seen, and shown by a few calls. */
+static bool sees_fault(enum fault fault)
+{
+    static const char *const names[FAULTS] = {
+        [WRONG_FRAME_BYTE] = "the reference says another byte of a frame",
+        [WRONG_BYTE_PAST_LENGTH] = "the reference says a byte past a frame's length",
+        [WRONG_BYTE_PAST_COUNT] = "the reference says a byte past the count of frames",
+        [WRONG_RECORD_BYTE] = "the reference says another byte of the record",
+        [WRONG_JOURNAL_BYTE] = "the reference writes another byte of the journal",
+        [WRONG_STORED_NUMBER] = "the reference stores another node number",
+        [REFUSED_BUT_CHANGED] = "both sensors change a record that they refuse",
+    };
+    printf("wrong on purpose: %s: ", names[fault]);
+    if (!is_seen(fault)) {
         printf("FAILED: not seen\n");
         return false;
     }
     show_difference(0);
     return history.count <= MOST_CALLS_OF_A_FAULT;
+}
+
+/* Each byte of the record is made wrong by itself, and must be seen as its field's. */
+static bool sees_every_byte(void)
+{
+    bool all = true;
+    for (pair.wrong_byte = 0; pair.wrong_byte < sizeof pair.device; pair.wrong_byte++) {
+        const char *name = field_at(pair.wrong_byte)->name;
+        if (!is_seen(WRONG_RECORD_BYTE) || history.difference.what != name) {
+            printf("FAILED: not seen: byte %u of the record, in %s\n", pair.wrong_byte, name);
+            all = false;
+        }
+    }
+    printf("wrong on purpose: each of the %u bytes of the record by itself\n", (unsigned)sizeof pair.device);
+    return all;
+}
+
+static bool sees_all_faults(void)
+{
+    bool all = true;
+    for (unsigned fault = NO_FAULT + 1; fault < FAULTS; fault++) {
+        all = sees_fault((enum fault)fault) && all;
+    }
+    all = sees_every_byte() && all;
+    printf(all ? "each difference made on purpose was seen and shrunk\n" : "FAILED: one was not seen, or its history stayed long\n");
+    return all;
 }
 
 int main(int count, char **words)
@@ -66,10 +98,7 @@ int main(int count, char **words)
     if (!passed) {
         printf("FAILED: a byte of the record is in no field\n");
     } else if (count == 2 && strcmp(words[1], "break") == 0) {
-        for (unsigned fault = NO_FAULT + 1; fault < FAULTS; fault++) {
-            passed = sees_fault((enum fault)fault) && passed;
-        }
-        printf(passed ? "each difference made on purpose was seen and shrunk\n" : "FAILED: one was not seen, or its history stayed long\n");
+        passed = sees_all_faults();
     } else if (count == 3 || count == 4) {
         uint32_t stride = count == 4 ? (uint32_t)strtoul(words[3], NULL, 10) : 1;
         passed = compare(strtoull(words[1], NULL, 10), strtoull(words[2], NULL, 10), stride);

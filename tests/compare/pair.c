@@ -2,6 +2,7 @@
 #include "pair.h"
 
 #include "journals.h"
+#include "lss.h"
 #include "records.h"
 
 #include <string.h>
@@ -11,10 +12,12 @@ _Static_assert((int)REFERENCE_FRAMES == BASINTILT_MOST_FRAMES, "frames of an ans
 void begin_pair(struct pair *pair)
 {
     enum fault fault = pair->fault;
+    unsigned wrong_byte = pair->wrong_byte;
     memset(pair, 0, offsetof(struct pair, journal));
     memset(pair->journal, 0xFF, sizeof pair->journal);
     memset(pair->reference_journal, 0xFF, sizeof pair->reference_journal);
     pair->fault = fault;
+    pair->wrong_byte = wrong_byte;
 }
 
 /* Field by field into zeroed memory, so that each byte of the library's answer has one that it must be. */
@@ -80,8 +83,10 @@ static struct reference_event same_event(const struct basintilt_happening *happe
 static void make_wrong(struct pair *pair)
 {
     struct basintilt_frame *frame = &pair->expected_answer.frames[0];
+    uint32_t end = BASINTILT_BLOCK_BYTES * (uint32_t)pair->record.saves.filled; /* of the block that was filled */
     bool reads_y = frame->bytes[0] == 0x4B && frame->bytes[1] == 0x20 && frame->bytes[2] == 0x60;
     bool saves = frame->bytes[0] == 0x60 && frame->bytes[1] == 0x10 && frame->bytes[2] == 0x10;
+    bool stores = frame->identifier == BASINTILT_LSS_REPLY_AT && frame->bytes[0] == STORES && frame->bytes[1] == 0;
     if (pair->fault == WRONG_FRAME_BYTE && reads_y) {
         frame->bytes[7] ^= 1;
     }
@@ -91,14 +96,14 @@ static void make_wrong(struct pair *pair)
     if (pair->fault == WRONG_BYTE_PAST_COUNT && reads_y) {
         pair->expected_answer.frames[1].bytes[7] ^= 1;
     }
-    if (pair->fault == WRONG_FIELD && saves) {
-        pair->expected_device.saves.stored.y.differential ^= 1;
-    }
-    if (pair->fault == WRONG_HIGH_BYTE && reads_y) {
-        pair->expected_device.y.state ^= 0x01000000;
+    if (pair->fault == WRONG_RECORD_BYTE && reads_y) {
+        ((uint8_t *)&pair->expected_device)[pair->wrong_byte] ^= 1;
     }
     if (pair->fault == WRONG_JOURNAL_BYTE && saves) {
-        pair->reference_journal[BASINTILT_BLOCK_BYTES * pair->record.saves.filled - 1] ^= 1;
+        pair->reference_journal[end - 1] ^= 1;
+    }
+    if (pair->fault == WRONG_STORED_NUMBER && stores) {
+        pair->reference_journal[end - BASINTILT_BLOCK_BYTES + 28] ^= 1;
     }
     if (pair->fault == REFUSED_BUT_CHANGED && pair->answer.refusal == BASINTILT_WRONG_FRAME) {
         pair->device.identity.serial ^= 1;
@@ -222,14 +227,14 @@ static struct difference compare_records(const struct basintilt_device *device, 
 }
 
 /* What a refusal leaves of the record: at an event what was lent, at power-on zeros. */
-static struct difference compare_refused(const struct pair *pair, const struct call *call, const struct basintilt_device *lent)
+static struct difference compare_refused(const struct pair *pair, const struct call *call)
 {
     static const struct basintilt_device zeros;
     bool refuses = call->kind == EVENT || call->kind == POWER_ON;
     if (!refuses || pair->answer.refusal == BASINTILT_ACCEPTED) {
         return (struct difference){0};
     }
-    return compare_records(&pair->device, call->kind == EVENT ? lent : &zeros);
+    return compare_records(&pair->device, call->kind == EVENT ? &pair->lent : &zeros);
 }
 
 static struct difference compare_queries(const struct pair *pair)
@@ -242,14 +247,14 @@ static struct difference compare_queries(const struct pair *pair)
 
 struct difference perform(struct pair *pair, const struct call *call)
 {
-    struct basintilt_device lent = pair->device;
     uint32_t end = call->kind == BYTE_WRITTEN ? call->written.at + 1 : call->length;
+    pair->lent = pair->device;
     pair->used = end > pair->used ? end : pair->used;
     do_call(pair, call);
     const struct difference differences[] = {
         compare_answers(&pair->answer, &pair->expected_answer),
         compare_records(&pair->device, &pair->expected_device),
-        compare_refused(pair, call, &lent),
+        compare_refused(pair, call),
         compare_queries(pair),
         compare_journals(pair),
     };

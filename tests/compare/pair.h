@@ -27,16 +27,18 @@ enum fault {
     WRONG_FRAME_BYTE,
     WRONG_BYTE_PAST_LENGTH, /* of a frame */
     WRONG_BYTE_PAST_COUNT,  /* of the frames */
-    WRONG_FIELD,
-    WRONG_HIGH_BYTE,        /* of a field that is wider than the reference's */
+    WRONG_RECORD_BYTE,
     WRONG_JOURNAL_BYTE,
+    WRONG_STORED_NUMBER,    /* in the block that a store by LSS fills */
     REFUSED_BUT_CHANGED,    /* the record, and in both sensors alike */
     FAULTS
 };
 
 struct pair {
     enum fault fault;
+    unsigned wrong_byte; /* of the record */
     bool too_wide; /* the reference has no such record, since a number is too wide for its field there */
+    struct basintilt_device lent; /* the record as it was before the call */
     struct basintilt_device device;
     struct basintilt_answer answer;
     struct reference_record record;

@@ -21,6 +21,7 @@ static struct basintilt_saves any_saves(struct chance *chance)
     saves.blocks = (uint16_t)(one_in(chance, 100) ? between(chance, 1, BASINTILT_MOST_BLOCKS) : between(chance, 1, 4));
     saves.filled = (uint16_t)PICK(chance, 0, saves.blocks, saves.blocks - 1u, between(chance, 0, saves.blocks));
     saves.spoiled = one_in(chance, 5);
+    saves.node = any_stored_node(chance);
     saves.stored = any_settings(chance);
     return saves;
 }
@@ -48,6 +49,24 @@ static struct basintilt_reading any_reading(struct chance *chance)
     return reading;
 }
 
+static struct basintilt_lss any_lss(struct chance *chance)
+{
+    struct basintilt_lss lss;
+    lss.mode = (uint16_t)PICK(chance, BASINTILT_WAITING, BASINTILT_CONFIGURATION);
+    lss.matches = (uint8_t)below(chance, BASINTILT_MOST_MATCHES + 1);
+    lss.node = any_stored_node(chance);
+    return lss;
+}
+
+struct basintilt_identity any_identity(struct chance *chance)
+{
+    uint32_t number = PICK(chance, 0, 1, 0xFFFFFFFF, any32(chance));
+    if (one_in(chance, 4)) {
+        return (struct basintilt_identity){number, number, number + one_in(chance, 2), number};
+    }
+    return (struct basintilt_identity){any32(chance), any32(chance), any32(chance), any32(chance)};
+}
+
 static struct basintilt_device record_in_range(struct chance *chance)
 {
     struct basintilt_device device;
@@ -56,7 +75,7 @@ static struct basintilt_device record_in_range(struct chance *chance)
     device.network = (uint8_t)PICK(chance, BASINTILT_STOPPED, BASINTILT_OPERATIONAL, BASINTILT_OPERATIONAL, BASINTILT_PRE_OPERATIONAL);
     device.transfers[0].stage = (uint8_t)below(chance, BASINTILT_AFTER_SEVEN + 1);
     device.transfers[1].stage = (uint8_t)below(chance, BASINTILT_AFTER_SEVEN + 1);
-    device.identity = (struct basintilt_identity){any32(chance), any32(chance), any32(chance), any32(chance)};
+    device.identity = any_identity(chance);
     device.saves = any_saves(chance);
     device.running = any_settings(chance);
     device.heartbeat = elapsed_below(chance, device.running.heartbeat);
@@ -65,6 +84,7 @@ static struct basintilt_device record_in_range(struct chance *chance)
         device.pdo.syncs = elapsed_below(chance, device.running.pdo.transmission);
     }
     device.errors = any_errors(chance);
+    device.lss = any_lss(chance);
     device.x = any_reading(chance);
     device.y = any_reading(chance);
     return device;

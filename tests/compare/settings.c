@@ -1,4 +1,4 @@
-/* Settings in range, their ends more often than their middle. */
+/* Settings and stored node numbers in range, their ends more often than their middle. */
 #include "settings.h"
 
 uint16_t any_heartbeat(struct chance *chance)
@@ -47,4 +47,9 @@ struct basintilt_settings any_settings(struct chance *chance)
     settings.x = any_axis_settings(chance);
     settings.y = any_axis_settings(chance);
     return settings;
+}
+
+uint8_t any_stored_node(struct chance *chance)
+{
+    return (uint8_t)PICK(chance, 0, 0, 1, BASINTILT_MOST_NODE, between(chance, 1, BASINTILT_MOST_NODE));
 }

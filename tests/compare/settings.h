@@ -1,4 +1,4 @@
-/* Settings in range, their ends more often than their middle. */
+/* Settings and stored node numbers in range, their ends more often than their middle. */
 #ifndef COMPARE_SETTINGS_H
 #define COMPARE_SETTINGS_H
 
@@ -11,5 +11,8 @@ uint16_t any_timer(struct chance *chance);
 uint16_t any_resolution(struct chance *chance);
 int16_t any_angle(struct chance *chance);
 struct basintilt_settings any_settings(struct chance *chance);
+
+/* 0 where none is stored or set. */
+uint8_t any_stored_node(struct chance *chance);
 
 #endif

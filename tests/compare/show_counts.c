@@ -111,12 +111,6 @@ static bool has_wide_numbers(unsigned field)
     return is_wider(&fields[field]);
 }
 
-#define TALLY(title, array, label, each, some)                                                            \
-    {                                                                                                     \
-        .name = (title), .counts = counts.array, .size = sizeof counts.array / sizeof counts.array[0],    \
-        .show_label = (label), .in_full = (each), .needed = (some)                                        \
-    }
-
 bool show_counts(void)
 {
     const struct tally tallies[] = {
@@ -137,9 +131,6 @@ bool show_counts(void)
         TALLY("fields out of range", fields_refused, show_field, false, has_range),
         TALLY("fields out of range by their high bytes alone", fields_refused_as_wide, show_field, false, has_wide_numbers),
     };
-    bool all = true;
-    for (unsigned i = 0; i < sizeof tallies / sizeof tallies[0]; i++) {
-        all = show_tally(&tallies[i]) && all;
-    }
-    return all;
+    bool all = show_tallies(tallies, sizeof tallies / sizeof tallies[0]);
+    return show_lss_counts() && all;
 }

@@ -36,7 +36,7 @@ static void show_least(const struct tally *tally)
     printf(")\n");
 }
 
-bool show_tally(const struct tally *tally)
+static bool show_tally(const struct tally *tally)
 {
     bool all = true;
     if (tally->in_full) {
@@ -51,6 +51,15 @@ bool show_tally(const struct tally *tally)
             tally->show_label(i);
             printf("\n");
         }
+    }
+    return all;
+}
+
+bool show_tallies(const struct tally *tallies, unsigned count)
+{
+    bool all = true;
+    for (unsigned i = 0; i < count; i++) {
+        all = show_tally(&tallies[i]) && all;
     }
     return all;
 }

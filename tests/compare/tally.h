@@ -15,7 +15,14 @@ struct tally {
     bool (*needed)(unsigned which); /* NULL where all are */
 };
 
-/* Prints a line; false where something needed was never reached. */
-bool show_tally(const struct tally *tally);
+/* A tally of one array of the counts. */
+#define TALLY(title, array, label, each, some)                                                            \
+    {                                                                                                     \
+        .name = (title), .counts = counts.array, .size = sizeof counts.array / sizeof counts.array[0],    \
+        .show_label = (label), .in_full = (each), .needed = (some)                                        \
+    }
+
+/* Prints a line for each; false where something needed was never reached. */
+bool show_tallies(const struct tally *tallies, unsigned count);
 
 #endif

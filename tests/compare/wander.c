@@ -26,7 +26,7 @@ static bool make_power_on(struct chance *chance, uint32_t length)
 {
     struct call call = {.kind = POWER_ON, .length = length};
     call.power_on.node = PICK(chance, 1, BASINTILT_MOST_NODE, between(chance, 1, BASINTILT_MOST_NODE));
-    call.power_on.identity = (struct basintilt_identity){any32(chance), any32(chance), any32(chance), any32(chance)};
+    call.power_on.identity = any_identity(chance);
     if (one_in(chance, 30)) {
         call.power_on.node = PICK(chance, 0, BASINTILT_MOST_NODE + 1, 255, 256, 257, 0x10001, 0xFFFFFFFF, any32(chance));
     }

@@ -5,6 +5,7 @@
 #include <string.h>
 
 enum { NODE = 5, BLOCKS = 2, READ = 0x40, FIRST_SEGMENT = 0x60, SECOND_SEGMENT = 0x70, WRITTEN = 0x60, ABORTED = 0x80 };
+enum { SWITCHES = 0x04, SETS_NUMBER = 0x11, STORES = 0x17, SELECTS = 0x40, TELLS_NUMBER = 0x5E };
 
 static const uint32_t request_at[BASINTILT_CHANNELS] = {BASINTILT_REQUEST_ONE_AT, BASINTILT_REQUEST_TWO_AT};
 static const uint16_t reply_at[BASINTILT_CHANNELS] = {BASINTILT_REPLY_ONE_AT, BASINTILT_REPLY_TWO_AT};
@@ -262,6 +263,65 @@ static void saves(int channel)
     IS(abort_of(channel, 0x23, 0x1010, 1, BASINTILT_SAVE), BASINTILT_ABORT_FULL);
 }
 
+/* One LSS request, and how many frames it brings. */
+static int lss(uint8_t command, uint8_t number)
+{
+    event((struct basintilt_happening){.kind = BASINTILT_FRAME, .identifier = BASINTILT_LSS_REQUEST_AT, .length = 8, .bytes = {command, number}});
+    return answer.count;
+}
+
+/* A reply of LSS with a number behind its command. */
+static void lss_tells(uint8_t command, uint8_t given, uint8_t told)
+{
+    IS(lss(command, given), 1);
+    IS(answer.frames[0].identifier, BASINTILT_LSS_REPLY_AT);
+    IS(answer.frames[0].bytes[0], command);
+    IS(answer.frames[0].bytes[1], told);
+}
+
+/* The identity is all zero, so that each of the first three matches only counts, and the fourth brings configuration. */
+static void selection(void)
+{
+    start_blank();
+    network(BASINTILT_FRAME, 0x02);
+    IS(device.lss.mode, BASINTILT_WAITING);
+    for (int place = 0; place < BASINTILT_MOST_MATCHES; place++) {
+        IS(device.lss.matches, place);
+        IS(lss(SELECTS + place, 0), 0);
+    }
+    IS(device.lss.matches, BASINTILT_MOST_MATCHES);
+    device.lss.matches++;
+    tick(0);
+    IS(answer.refusal, BASINTILT_OUT_OF_RANGE);
+    device.lss.matches--;
+    IS(lss(SELECTS + BASINTILT_MOST_MATCHES, 0), 1);
+    IS(answer.frames[0].identifier, BASINTILT_LSS_REPLY_AT);
+    IS(device.lss.mode, BASINTILT_CONFIGURATION);
+    IS(lss(SWITCHES, BASINTILT_WAITING), 0);
+    IS(device.lss.mode, BASINTILT_WAITING);
+}
+
+/* A number is set, stored and in force behind a reset; in configuration, which the switch brings. */
+static void node_number(void)
+{
+    start_blank();
+    network(BASINTILT_FRAME, 0x02);
+    IS(lss(SWITCHES, BASINTILT_CONFIGURATION), 0);
+    IS(device.lss.mode, BASINTILT_CONFIGURATION);
+    lss_tells(SETS_NUMBER, BASINTILT_MOST_NODE + 1, 1);
+    lss_tells(SETS_NUMBER, BASINTILT_MOST_NODE, 0);
+    lss_tells(TELLS_NUMBER, 0, NODE);
+    lss_tells(STORES, 0, 0);
+    IS(device.lss.node, BASINTILT_MOST_NODE);
+    IS(device.saves.node, BASINTILT_MOST_NODE);
+    IS(device.node, NODE);
+    network(BASINTILT_FRAME, 0x82);
+    IS(answer.frames[0].identifier, BASINTILT_HEARTBEAT_AT + BASINTILT_MOST_NODE);
+    IS(device.lss.mode, BASINTILT_WAITING);
+    power_on(NODE, BLOCKS * BASINTILT_BLOCK_BYTES);
+    IS(device.node, BASINTILT_MOST_NODE);
+}
+
 int main(void)
 {
     refusals_of_power_on();
@@ -277,6 +337,8 @@ int main(void)
         aborts(channel);
         saves(channel);
     }
+    selection();
+    node_number();
     start_blank();
     ends_at(0x1017, 0, BASINTILT_LEAST_PERIOD, BASINTILT_LEAST_PERIOD - 1);
     ends_at(0x1800, 2, BASINTILT_MOST_SYNCHRONOUS, BASINTILT_MOST_SYNCHRONOUS + 1);

@@ -132,6 +132,20 @@ static size_t others(void)
     return most;
 }
 
+/* Every LSS command in Stopped and in both modes, the four matches in their order among them; then resets with the number that was set. */
+static size_t lss_requests(void)
+{
+    size_t most = 0;
+    device.network = BASINTILT_STOPPED;
+    for (unsigned i = 0; i < 2 * 256; i++) {
+        device.lss.mode = i < 256 ? BASINTILT_WAITING : BASINTILT_CONFIGURATION;
+        happening = (struct basintilt_happening){.identifier = BASINTILT_LSS_REQUEST_AT, .length = 8, .bytes = {(uint8_t)i, i % 4 + 1}};
+        note(&most, depth(event));
+    }
+    note(&most, others());
+    return most;
+}
+
 static int over(const char *what, unsigned blocks, size_t bytes, size_t enough)
 {
     printf("%s, %u blocks: %u bytes of stack%s\n", what, blocks, (unsigned)bytes, bytes > enough ? ", TOO MANY" : "");
@@ -163,6 +177,8 @@ int main(void)
         fill(0);
         size_t most = others();
         note(&most, requests());
+        fill(0);
+        note(&most, lss_requests());
         failures += over("an event, the deepest", blocks[i], most, ENOUGH_FOR_EVENT);
     }
     failures += over_long_journal(0) + over_long_journal(BASINTILT_MOST_BLOCKS);

@@ -22,7 +22,7 @@ use Rattle.device.specs.Seen.{seen, alone, Ranged}
 
 module _ (d : Device) (j : List ℕ) where
   -- the outcome has nothing to do with the journal
-  outcome-beside : (c : Caller) (request : List ℕ) → outcomeFor c request (alone d) ≡ outcomeFor c request (seen d j)
+  pub outcome-beside : (c : Caller) (request : List ℕ) → outcomeFor c request (alone d) ≡ outcomeFor c request (seen d j)
   outcome-beside (Client c) request = sym (outcome-alike c request d []) ∙ outcome-alike c request d j
   outcome-beside Master request = sym (lss-alike request d []) ∙ lss-alike request d j
 

@@ -9,19 +9,18 @@ use Rattle.acts.proofs.Done.{done-as}
 use Rattle.acts.specs.declared.Act.{Act}
 use Rattle.acts.specs.Acts.{requested, actOf, does}
 use Rattle.device.proofs.Acted.{acted-alike}
+use Rattle.device.proofs.Asked.{outcome-beside}
 use Rattle.device.proofs.Beside.{Beside, tick-beside, sync-beside, reading-beside, range-beside}
-use Rattle.device.proofs.Views.{outcome-alike}
 use Rattle.device.specs.declared.Device.{Device}
 use Rattle.device.specs.Answers.{steppedOf}
 use Rattle.device.specs.Seen.{seen, alone}
 use Rattle.rules.specs.declared.events.Event.{Event}
-use Rattle.rules.specs.declared.objects.Channel.{Channel}
+use Rattle.rules.specs.declared.requests.Caller.{Caller}
 use Rattle.rules.specs.declared.requests.Outcome.{Outcome}
-use Rattle.rules.specs.Events.{answered, onEvent, event, journalFits}
+use Rattle.rules.specs.Events.{outcomeFor, answered, onEvent, event, journalFits}
 use Rattle.rules.specs.Network.{start}
 use Rattle.rules.specs.Ranges.{inRange}
 use Rattle.rules.specs.Results.{Result, refused}
-use Rattle.rules.specs.Service.{outcome}
 use Rattle.promises.specs.ByTheRecord.{ByTheRecord}
 
 -- two results that move the record alike, with the same answer
@@ -38,14 +37,14 @@ module _ (d : Device) (j k : List ℕ) where
   same a b = a .same ∙ sym (b .same)
 
   -- a request: its outcome does not go by the journal, nor does what the outcome makes of the record
-  acted : (c : Channel) (o : Outcome) (l : List ℕ) → steppedOf (answered c o (seen d l)) ≡ steppedOf (answered c o (alone d))
+  acted : (c : Caller) (o : Outcome) (l : List ℕ) → steppedOf (answered c o (seen d l)) ≡ steppedOf (answered c o (alone d))
   acted c o l = acted-alike 0 c (o .replies) (o .bytes) (o .transfer) d l (o .change)
 
-  requested-alike : (c : Channel) (bytes : List ℕ) → steppedOf (requested c bytes (seen d j)) ≡ steppedOf (requested c bytes (seen d k))
+  requested-alike : (c : Caller) (bytes : List ℕ) → steppedOf (requested c bytes (seen d j)) ≡ steppedOf (requested c bytes (seen d k))
   requested-alike c bytes =
-      acted c (outcome c bytes (seen d j)) j
-      ∙ ap (λ (o : Outcome). steppedOf (answered c o (alone d))) (sym (outcome-alike c bytes d j) ∙ outcome-alike c bytes d k)
-      ∙ sym (acted c (outcome c bytes (seen d k)) k)
+      acted c (outcomeFor c bytes (seen d j)) j
+      ∙ ap (λ (o : Outcome). steppedOf (answered c o (alone d))) (sym (outcome-beside d j c bytes) ∙ outcome-beside d k c bytes)
+      ∙ sym (acted c (outcomeFor c bytes (seen d k)) k)
 
   -- by the step's number
   act-alike : (a : Act) → Alike (does a (seen d j)) (does a (seen d k))
@@ -59,7 +58,7 @@ module _ (d : Device) (j k : List ℕ) where
       (either (eqb (a .step) 5) (record { moves = refl })
       (either (eqb (a .step) 6) (record { moves = refl })
       (either (eqb (a .step) 7) (record { moves = refl })
-      (record { moves = requested-alike (a .channel) (a .bytes) }))))))))
+      (record { moves = requested-alike (a .caller) (a .bytes) }))))))))
 
   kind-alike : (e : Event) (bytes : List ℕ) (size : ℕ) → steppedOf (onEvent e bytes size (seen d j)) ≡ steppedOf (onEvent e bytes size (seen d k))
   kind-alike e bytes size = ap steppedOf (done-as bytes size (seen d j) e) ∙ act-alike (actOf e bytes size (d .node)) .moves ∙ sym (ap steppedOf (done-as bytes size (seen d k) e))

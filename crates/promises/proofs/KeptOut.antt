@@ -15,7 +15,8 @@ use Rattle.rules.specs.declared.events.Event.the-variants.{Received, Tick}
 use Rattle.rules.specs.declared.events.Frame.{Frame}
 use Rattle.rules.specs.declared.objects.Channel.{Channel}
 use Rattle.rules.specs.declared.parts.Identity.{Identity}
-use Rattle.rules.specs.Events.{answered, onService, onFrame, onEvent, request, NotRefused, event}
+use Rattle.rules.specs.declared.requests.Caller.the-variants.{Client}
+use Rattle.rules.specs.Events.{answered, onRequest, onFrame, onEvent, request, NotRefused, event}
 use Rattle.rules.specs.Frames.{bootUpFrame}
 use Rattle.rules.specs.Journal.{lengthOk, blankBlocks}
 use Rattle.rules.specs.Network.{onNetwork, onNetworkCommand, start}
@@ -26,7 +27,7 @@ use Rattle.rules.specs.Replies.{reply}
 use Rattle.rules.specs.Requests.{commandOf, command, indexOf, subindexOf}
 use Rattle.rules.specs.Results.{Result}
 use Rattle.rules.specs.Service as service
-use Rattle.rules.specs.State.{State}
+use Rattle.rules.specs.State.{State, lastSet}
 use Rattle.promises.specs.KeptOut.{Meets, KeptOut, Serves, replies, read2100, filledBlocks, RefusesAll, AnswersAlike, AnswersEach, ChangesNothing, WorksOnce, Invents2100, Constant}
 
 abbrev state : Result → State
@@ -51,7 +52,7 @@ module _ (u : State) (fine : NotRefused u) where
   unfolding onFrame onNetwork onNetworkCommand
   starts = ap (λ (r : Result). r .state .network) (by-kind network (toAll 0x01) 2)
 
-  boots : event network (toAll 0x82) 2 u .sent ≡ bootUpFrame (u .node) ∷ []
+  boots : event network (toAll 0x82) 2 u .sent ≡ bootUpFrame (lastSet u) ∷ []
   unfolding onFrame onNetwork onNetworkCommand
   boots = ap sent (by-kind network (toAll 0x82) 2)
 
@@ -96,7 +97,7 @@ works-once sensor (node, identity, j, on, first, bytes, n, dead) meets =
     let u = event first bytes n start .state in
     let same : sensor first bytes n start .state ≡ u = ap state (meets first bytes n start) in
     let silent = rw same at (dead network (toAll 0x82) 2 .1) in
-    some (bootUpFrame (u .node))
+    some (bootUpFrame (lastSet u))
     (sym silent ∙ ap sent (meets network (toAll 0x82) 2 u) ∙ boots u (event-stays start (start-stays node identity j on) first bytes n))
 
 -- reads of 1000:0 and of 1018:0 are answered 43h and 4Fh first
@@ -116,8 +117,8 @@ ending = 0x80 ∷ 0 ∷ 0 ∷ 0 ∷ 0 ∷ 0 ∷ 0 ∷ 0 ∷ []
 
 -- requests on any channel, beside any record that serves
 module _ (c : Channel) (u : State) (serves : Serves u) where
-  on-channel : (bytes : List ℕ) → replies event c bytes u ≡ answered c (service.onCommand c bytes (command bytes) (objectAt (indexOf bytes) (subindexOf bytes)) u) u .sent
-  unfolding onService
+  on-channel : (bytes : List ℕ) → replies event c bytes u ≡ answered (Client c) (service.onCommand c bytes (command bytes) (objectAt (indexOf bytes) (subindexOf bytes)) u) u .sent
+  unfolding onRequest
   on-channel bytes = ap sent (request-received false bytes 8 u (serves .0 .0) (serves .0 .1) c) ∙ rw (serves .1)
 
   first-bytes : (firstByte (replies event c read1000 u) ≡ 0x43) × (firstByte (replies event c read1018 u) ≡ 0x4F)

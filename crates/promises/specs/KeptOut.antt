@@ -10,6 +10,7 @@ use Rattle.rules.specs.declared.events.Event.{Event}
 use Rattle.rules.specs.declared.events.Frame.{Frame}
 use Rattle.rules.specs.declared.objects.Channel.{Channel}
 use Rattle.rules.specs.declared.parts.Identity.{Identity}
+use Rattle.rules.specs.declared.requests.Caller.the-variants.{Client}
 use Rattle.rules.specs.Events.{request, NotRefused, event}
 use Rattle.rules.specs.Frames.{replyFrame}
 use Rattle.rules.specs.Numbers.{four}
@@ -67,7 +68,7 @@ abbrev pub read2100 : List ℕ
 read2100 = 0x40 ∷ 0x00 ∷ 0x21 ∷ 0 ∷ 0 ∷ 0 ∷ 0 ∷ 0 ∷ []
 
 abbrev pub filledBlocks : Channel → State → Frame
-filledBlocks c u = replyFrame c (u .node) (0x4B ∷ 0x00 ∷ 0x21 ∷ 0 ∷ four (u .saves .filled))
+filledBlocks c u = replyFrame (Client c) (u .node) (0x4B ∷ 0x00 ∷ 0x21 ∷ 0 ∷ four (u .saves .filled))
 
 -- "the one whose 2100 is invented": beside some record that serves it answers anything else
 abbrev pub Invents2100 : Sensor → Type 0
