@@ -176,7 +176,7 @@ def resets(desk):
 
 
 def session(desk, number):
-    """LSS by identity: that of another board first, which is not answered; a number that is none; the number, stored; the reset."""
+    """LSS by identity: that of another board first, which is not answered; a number that is none; the number, and its store."""
     desk.send(0x000, "0200")
     for serial in 2, 1:
         for command, value in zip(range(0x40, 0x44), (0, 0, 0, serial)):
