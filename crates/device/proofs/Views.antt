@@ -14,6 +14,7 @@ use Rattle.rules.specs.declared.objects.Setting.{Setting}
 use Rattle.rules.specs.declared.objects.Setting.the-variants.{Heartbeat, Pdo, Resolution, Operating, Preset, Offset, Differential}
 use Rattle.rules.specs.declared.requests.Command.{Command}
 use Rattle.rules.specs.declared.requests.Command.the-variants.{Write, Read, Segment, End, Unknown}
+use Rattle.lss.specs.Sighted.{sighted}
 use Rattle.rules.specs.Lss.{lssCommandOf, onLssCommand, lssOutcome}
 use Rattle.rules.specs.Objects.{rowOf, objectAt}
 use Rattle.rules.specs.Reads.{readOf}
@@ -26,7 +27,7 @@ use Rattle.device.specs.declared.Device.{Device}
 use Rattle.rules.specs.declared.requests.LssCommand.{LssCommand}
 use Rattle.rules.specs.declared.requests.LssCommand.the-variants.{Switch, Select, SetNode, StoreNode, TellIdentity, TellNode, Unheard}
 use Rattle.device.specs.Seen.{seen}
-use Rattle.device.specs.Views.{viewOf}
+use Rattle.device.specs.Views.{viewOf, sightOf}
 
 module _ (c : Channel) (d : Device) (j : List ℕ) where
   -- the view's state, and the record's beside the journal
@@ -90,9 +91,9 @@ module _ (c : Channel) (request : List ℕ) (d : Device) (j : List ℕ) where
   pub outcome-alike : outcome c request (view.viewed (viewOf c d)) ≡ outcome c request (seen d j)
   outcome-alike = rw (command-alike (command request) (objectAt (indexOf request) (subindexOf request)), transfer-alike c d j)
 
--- and so does LSS, for which either channel's view will do
+-- and so does LSS
 module _ (request : List ℕ) (d : Device) (j : List ℕ) where
-  lss-command-alike : (k : LssCommand) → onLssCommand k request (view.viewed (viewOf One d)) ≡ onLssCommand k request (seen d j)
+  lss-command-alike : (k : LssCommand) → onLssCommand k request (sighted (sightOf d)) ≡ onLssCommand k request (seen d j)
   lss-command-alike Switch = refl
   lss-command-alike (Select p) = refl
   lss-command-alike SetNode = refl
@@ -101,5 +102,5 @@ module _ (request : List ℕ) (d : Device) (j : List ℕ) where
   lss-command-alike TellNode = refl
   lss-command-alike Unheard = refl
 
-  pub lss-alike : lssOutcome request (view.viewed (viewOf One d)) ≡ lssOutcome request (seen d j)
+  pub lss-alike : lssOutcome request (sighted (sightOf d)) ≡ lssOutcome request (seen d j)
   lss-alike = rw (lss-command-alike (lssCommandOf (getD request 0 0)))

@@ -1,4 +1,5 @@
--- What a request on a channel sees of the record.
+-- What a request sees of the record: one on a channel.
+use Rattle.lss.specs.declared.Sight.{Sight}
 use Rattle.rules.specs.declared.objects.Channel.{Channel}
 use Rattle.rules.specs.State.{transferOf}
 use Rattle.view.specs.declared.View.{View}
@@ -10,7 +11,6 @@ viewOf c d = record {
   node = d .node;
   identity = d .identity;
   network = d .network;
-  lss = d .lss;
   blocks = d .saves .blocks;
   filled = d .saves .filled;
   spoiled = d .saves .spoiled;
@@ -19,4 +19,16 @@ viewOf c d = record {
   transfer = transferOf c (alone d);
   x = d .x;
   y = d .y;
+}
+
+-- and an LSS request
+abbrev pub sightOf : Device → Sight
+sightOf d = record {
+  identity = d .identity;
+  node = d .node;
+  network = d .network;
+  lss = d .lss;
+  blocks = d .saves .blocks;
+  filled = d .saves .filled;
+  spoiled = d .saves .spoiled;
 }

@@ -9,14 +9,24 @@ use rules::requests::LssCommand;
 use rules::requests::Outcome;
 use rules::requests::Verdict;
 use rules::states;
-use view::View;
 ghost use mathlib.Core.Path.{_≡_};
 ghost use Prim.Native.Nat.{_≤_};
 ghost use Rattle.rules.specs.Lss.{lssCommandOf, identityPart, matchesBefore, lssReplied, lssSilent, onSwitch, onSelect, onSetNode, onStore, inMode, onLssCommand, lssOutcome};
 ghost use Rattle.rules.specs.State;
 ghost use Rattle.rules.specs.State.{nodeElse, lastSet};
 ghost use Rattle.rules.specs.Writes.{roomCheck};
-ghost use Rattle.view.specs.Seen.{viewed};
+ghost use Rattle.lss.specs.Sighted.{sighted};
+
+// What an LSS request may look at.
+pub struct Sight {
+    pub identity: Identity,
+    pub node: u8,
+    pub network: u8,
+    pub lss: Lss,
+    pub blocks: u16,
+    pub filled: u16,
+    pub spoiled: u8,
+}
 
 const OUT_OF_RANGE: u32 = 1;
 
@@ -150,8 +160,8 @@ fn set_node(node: u8, mut l: Lss) -> Outcome
 }
 
 // The number last set, else the running one, goes into the next block, where there is room for it.
-fn store(v: View) -> Outcome
-    ensures { λ r. ⌜ r ≡ onStore (roomCheck (v .spoiled) (v .filled) (v .blocks)) (lastSet (viewed v)) ⌝ }
+fn store(v: Sight) -> Outcome
+    ensures { λ r. ⌜ r ≡ onStore (roomCheck (v .spoiled) (v .filled) (v .blocks)) (lastSet (sighted v)) ⌝ }
 {
     let room = checks::room_check(v.spoiled, v.filled, v.blocks);
     match room {
@@ -174,8 +184,8 @@ fn in_mode(mode: u16, l: Lss, o: Outcome) -> Outcome
     silent(Change::Keep)
 }
 
-fn serve(command: LssCommand, request: [u8; 8], v: View) -> Outcome
-    ensures { λ r. ⌜ r ≡ onLssCommand command request (viewed v) ⌝ }
+fn serve(command: LssCommand, request: [u8; 8], v: Sight) -> Outcome
+    ensures { λ r. ⌜ r ≡ onLssCommand command request (sighted v) ⌝ }
 {
     match command {
         LssCommand::Switch => switch(request[1], v.lss),
@@ -207,8 +217,8 @@ fn serve(command: LssCommand, request: [u8; 8], v: View) -> Outcome
 }
 
 // What an LSS request brings about, in Stopped only.
-pub fn outcome(request: [u8; 8], v: View) -> Outcome
-    ensures { λ r. ⌜ r ≡ lssOutcome request (viewed v) ⌝ }
+pub fn outcome(request: [u8; 8], v: Sight) -> Outcome
+    ensures { λ r. ⌜ r ≡ lssOutcome request (sighted v) ⌝ }
 {
     if v.network != states::STOPPED {
         return silent(Change::Keep);

@@ -4,7 +4,7 @@ use mathlib.Core.Bool.{true}
 use mathlib.Core.List.{[], _∷_}
 use Rattle.rules.specs.Ranges.{axisOk}
 use Rattle.rules.specs.Settings.{factory, inTable}
-use Rattle.rules.specs.State.{State, noCounts}
+use Rattle.rules.specs.State.{State, noCounts, unselected}
 use Rattle.view.specs.declared.View.{View}
 
 abbrev pub viewed : View → State
@@ -12,7 +12,7 @@ viewed v = record {
   node = v .node;
   identity = v .identity;
   network = v .network;
-  lss = v .lss;
+  lss = unselected 0;
   saves = record { blocks = v .blocks; filled = v .filled; spoiled = v .spoiled; node = 0; stored = factory };
   running = v .running;
   errors = v .errors;

@@ -1,8 +1,7 @@
-// What a request may look at: the parts of the record that a read gives, a check asks or LSS goes by.
+// What a service request may look at: the parts of the record that a read gives or a check asks.
 use rules::errors::ErrorList;
 use rules::objects::Axis;
 use rules::parts::Identity;
-use rules::parts::Lss;
 use rules::parts::Reading;
 use rules::parts::Transfer;
 use rules::settings::AxisSettings;
@@ -16,7 +15,6 @@ pub struct View {
     pub node: u8,
     pub identity: Identity,
     pub network: u8,
-    pub lss: Lss,
     pub blocks: u16,
     pub filled: u16,
     pub spoiled: u8,
