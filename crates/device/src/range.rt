@@ -12,6 +12,9 @@ impl Device {
     pub fn refusal(self, length: usize) -> u16
         ensures { λ r. ⌜ r ≡ refusalOf length (alone self) ⌝ }
     {
+        if !ranges::lss_ok(self.lss) {
+            return OUT_OF_RANGE;
+        }
         if !ranges::saves_ok(self.saves) {
             return OUT_OF_RANGE;
         }
@@ -28,9 +31,7 @@ impl Device {
         if !ranges::errors_ok(self.errors) {
             return OUT_OF_RANGE;
         }
-        if !(ranges::own_node_ok(self.node)
-            & ranges::network_ok(self.network)
-            & ranges::lss_ok(self.lss)) {
+        if !(ranges::own_node_ok(self.node) & ranges::network_ok(self.network)) {
             return OUT_OF_RANGE;
         }
         if !(ranges::elapsed_ok(self.running.heartbeat, self.heartbeat)
