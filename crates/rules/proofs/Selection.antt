@@ -1,13 +1,13 @@
 -- LSS by its numbers: which requests that select count, what is told in configuration, where nothing is done, and what ends configuration.
-use mathlib.Core.Path.{_≡_, refl, sym, _∙_}
-use mathlib.Core.Bool.{Bool, true, false, _&&_, _||_}
-use mathlib.Core.List.{List, [], _∷_}
+use mathlib.Core.Path.{_≡_, refl, ap, sym, _∙_}
+use mathlib.Core.Bool.{Bool, true, false, cond, _&&_, _||_}
+use mathlib.Core.List.{List, [], _∷_, _++_, map}
 use mathlib.Core.Logic.{_⊎_, inl, inr}
 use Prim.Native.Nat.{ℕ, zero, suc, _+_, _/_, _%_, _≤_}
 use native.Mathlib.Omega.{arith}
-use borrow.Author.Tests.{eqb-true, eqb-false, eq-eqb, ne-eqb}
+use borrow.Author.Tests.{eqb-true, eqb-false, eq-eqb}
 use lib.Dec.{eqb}
-use lib.ListN.{length, getD}
+use lib.ListN.{length, getD, replicate}
 use Rattle.laws.proofs.Bools.{no, left, right, either, cond-each}
 use Rattle.rules.specs.declared.objects.Axis.{Axis}
 use Rattle.rules.specs.declared.objects.Channel.{Channel}
@@ -27,8 +27,8 @@ use Rattle.rules.specs.declared.requests.Zeroed.{Zeroed}
 use Rattle.rules.specs.declared.requests.Zeroed.the-variants.{To, Refused}
 use Rattle.rules.specs.Lss.{lssCommandOf, lssReplied, lssSilent, onSelect, lssOutcome}
 use Rattle.rules.specs.Network.{started, communicating}
-use Rattle.rules.specs.Numbers.{fourAt}
-use Rattle.rules.specs.Ranges.{inRange, nodeOk, transfersOk}
+use Rattle.rules.specs.Numbers.{four, fourAt}
+use Rattle.rules.specs.Ranges.{inRange, nodeOk, networkOk, transfersOk}
 use Rattle.rules.specs.Requests.{valueFor}
 use Rattle.rules.specs.Service.{replied, outcome, onLss, stateAfter}
 use Rattle.rules.specs.State.{State, absent, transferring}
@@ -36,6 +36,25 @@ use Rattle.rules.specs.Writes.{zeroedBy, zeroChange, settingWrite, chang
 use Rattle.rules.proofs.EachOutcome.{each-outcome}
 use Rattle.rules.proofs.InRange.{parts}
 use Rattle.rules.proofs.Numbers.{to-most}
+
+-- the matches after a request that selects, by its part, whether its value is the record's own, and the matches before; 4 is configuration
+abbrev matchesAfter : ℕ → Bool → ℕ → ℕ
+matchesAfter part same before =
+    let l : Lss = record { mode = 0; matches = before; node = 0 } in
+    let then = onLss (onSelect part same l .change) l in
+    cond (eqb (then .mode) 1) 4 (then .matches)
+
+-- "four matches in that order": a row for 40h, 41h, 42h and 43h, by 0 to 3 matches before; a wrong value leaves none
+abbrev rows : Bool → List (List ℕ)
+rows same = map (λ part. map (matchesAfter part same) (0 ∷ 1 ∷ 2 ∷ 3 ∷ [])) (0 ∷ 1 ∷ 2 ∷ 3 ∷ [])
+
+pub right-values : rows true ≡ (1 ∷ 1 ∷ 1 ∷ 1 ∷ []) ∷ (0 ∷ 2 ∷ 0 ∷ 0 ∷ []) ∷ (0 ∷ 0 ∷ 3 ∷ 0 ∷ []) ∷ (0 ∷ 0 ∷ 0 ∷ 4 ∷ []) ∷ []
+unfolding onSelect
+right-values = refl
+
+pub wrong-values : rows false ≡ replicate 4 (replicate 4 0)
+unfolding onSelect
+wrong-values = refl
 
 module _ (part : ℕ) (same : Bool) (l : Lss) where
   -- "four matches in that order": the first whatever was matched before, each other one directly behind the one before it
@@ -85,14 +104,25 @@ two-transfers (a ∷ b ∷ c ∷ l) e = absurd (omega (arith, eqb-true (length (
 pub unchanged : (u : State) (o : Outcome) → inRange u ≡ true → o .change ≡ Keep → stateAfter Master o u ≡ u
 unchanged u o range e = rw (e, two-transfers (u .transfers) (parts u range .transfers))
 
+one-byte : (n : ℕ) → n ≤ 47 → four n ≡ n ∷ 0 ∷ 0 ∷ 0 ∷ []
+one-byte n small =
+    let low : n % 256 ≡ n = omega arith in
+    let second : n / 256 % 256 ≡ 0 = omega arith in
+    let third : n / 65536 % 256 ≡ 0 = omega arith in
+    let fourth : n / 16777216 % 256 ≡ 0 = omega arith in
+    rw (low, second, third, fourth)
+
 module _ (u : State) (request : List ℕ) where
   -- "vendor, product, revision, serial": the record's own numbers, 0 to 3
   abbrev own : ℕ → ℕ
   own part = getD (u .identity .vendor ∷ u .identity .product ∷ u .identity .revision ∷ u .identity .serial ∷ []) part 0
 
   -- "in Stopped only"
-  pub unserved : ¬ (u .network ≡ 4) → lssOutcome request u ≡ lssSilent Keep
-  unserved n = rw (ne-eqb (u .network) 4 n)
+  pub unserved : networkOk (u .network) ≡ true → ¬ (u .network ≡ 4) → lssOutcome request u ≡ lssSilent Keep
+  unserved ok moving =
+      let n = u .network in
+      either (eqb n 4 || eqb n 5) (eqb n 127)
+      (λ e. either (eqb n 4) (eqb n 5) (λ f. absurd (moving (eqb-true n 4 f))) (λ f. rw (eqb-true n 5 f)) e) (λ e. rw (eqb-true n 127 e)) ok
 
   module _ (still : u .network ≡ 4) where
     -- "40h to 43h selective by vendor, product, revision, serial": waiting
@@ -119,12 +149,7 @@ module _ (u : State) (request : List ℕ) where
         → lssOutcome request u ≡ replied (0x5E ∷ u .node ∷ 0 ∷ 0 ∷ 0 ∷ 0 ∷ 0 ∷ 0 ∷ []) absent Keep
     unfolding lssCommandOf
     tells-node ok in-mode first =
-        let small = to-most 1 47 (u .node) ok in
-        let low : u .node % 256 ≡ u .node = omega arith in
-        let second : u .node / 256 % 256 ≡ 0 = omega arith in
-        let third : u .node / 65536 % 256 ≡ 0 = omega arith in
-        let fourth : u .node / 16777216 % 256 ≡ 0 = omega arith in
-        rw (still, first, in-mode, low, second, third, fourth)
+        rw (still, first, in-mode) (ap (λ (bytes : List ℕ). replied (0x5E ∷ bytes ++ 0 ∷ 0 ∷ 0 ∷ []) absent Keep) (one-byte (u .node) (to-most 1 47 (u .node) ok)))
 
 -- what is written on a channel is no part of LSS
 module _ (c : Channel) (u : State) (l : Lss) where
