@@ -33,7 +33,7 @@ use Rattle.rules.specs.Events.{outcomeFor}
 use Rattle.rules.specs.Lss.{lssOutcome}
 use Rattle.rules.specs.Numbers.{fourAt, fits, signed}
 use Rattle.rules.specs.Objects.{rowOf, settingRow}
-use Rattle.rules.specs.Ranges.{inRange, transferOk, lssOk}
+use Rattle.rules.specs.Ranges.{transferOk, lssOk}
 use Rattle.rules.specs.Requests.{valueFor}
 use Rattle.rules.specs.Service.{outcome, carrying}
 use Rattle.rules.specs.Settings.{within, pdoWithin, axisSettings}
@@ -42,7 +42,7 @@ use Rattle.rules.specs.Writes.{_then_, unless, lengthCheck, roomCheck, z
 use Rattle.rules.proofs.BySetting.{valued}
 use Rattle.rules.proofs.EachLss.{each-lss}
 use Rattle.rules.proofs.EachOutcome.{each-outcome}
-use Rattle.rules.proofs.InRange.{parts}
+use Rattle.rules.proofs.InRange.{InRange}
 use Rattle.rules.proofs.Nodes.{node-small, last-set}
 use Rattle.rules.proofs.Ranges.{signed-fits}
 
@@ -174,18 +174,18 @@ module _ (u : State) where
       })
 
   -- an LSS request: LSS stays in its range, and a store's number is a node number
-  master-allowed : (request : List ℕ) → inRange u ≡ true → Allowed u (lssOutcome request u .change)
+  master-allowed : (request : List ℕ) → InRange u → Allowed u (lssOutcome request u .change)
   master-allowed request range =
       each-lss request u (λ (o : Outcome). Allowed u (o .change))
       (record {
         silent = tt;
-        changed = λ l h. h (parts u range .lss);
-        configured = λ first l n h. h (parts u range .lss);
+        changed = λ l h. h (range .lss);
+        configured = λ first l n h. h (range .lss);
         answered = λ first n h. tt;
         stored = λ e. fill-allowed (Stored (lastSet u)) (node-small (lastSet u) (last-set u range)) e;
       })
 
-  pub allowed : (c : Caller) (request : List ℕ) → inRange u ≡ true → Allowed u (outcomeFor c request u .change)
+  pub allowed : (c : Caller) (request : List ℕ) → InRange u → Allowed u (outcomeFor c request u .change)
   allowed (Client c) request range = client-allowed c request
   allowed Master request range = master-allowed request range
 

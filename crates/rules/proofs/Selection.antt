@@ -65,6 +65,7 @@ module _ (part : ℕ) (same : Bool) (l : Lss) where
   abbrev pub selecting : ℕ → ℕ → Change
   selecting mode matches = Configure (record { mode = mode; matches = matches; node = l .node })
 
+  -- the same as a test
   abbrev test : Bool
   test = same && (eqb part 0 || eqb (l .matches) part)
 
@@ -104,6 +105,7 @@ two-transfers (a ∷ b ∷ c ∷ l) e = absurd (omega (arith, eqb-true (length (
 pub unchanged : (u : State) (o : Outcome) → inRange u ≡ true → o .change ≡ Keep → stateAfter Master o u ≡ u
 unchanged u o range e = rw (e, two-transfers (u .transfers) (parts u range .transfers))
 
+-- a node number has one byte
 one-byte : (n : ℕ) → n ≤ 47 → four n ≡ n ∷ 0 ∷ 0 ∷ 0 ∷ []
 one-byte n small =
     let low : n % 256 ≡ n = omega arith in

@@ -113,7 +113,7 @@ module _ (u : State) (fine : NotRefused u) where
       let stored = saves-parts (u .saves) (is .saves) .stored in (
         together (communicating u)
             (record {
-              node = last-set u (fine .0);
+              node = last-set u is;
               network = refl;
               saves = is .saves;
               running = in-table (communicating u .running) (mixed stored);
@@ -146,7 +146,7 @@ module _ (u : State) (fine : NotRefused u) where
 
   started-stays : NotRefused (start (lastSet u) (u .identity) (u .saves) (u .lss .node) (u .journal) .state)
   unfolding start
-  started-stays = (started-in (lastSet u) (u .identity) (u .saves) (u .lss .node) (u .journal) (last-set u (fine .0)) (is .saves) set, fine .1)
+  started-stays = (started-in (lastSet u) (u .identity) (u .saves) (u .lss .node) (u .journal) (last-set u is) (is .saves) set, fine .1)
 
   pub event-stays : (e : Event) (bytes : List ℕ) (length : ℕ) → NotRefused (event e bytes length u .state)
   event-stays =
