@@ -1,6 +1,6 @@
 -- Filled blocks stay, call after call.
-use mathlib.Core.Path.{_≡_, refl, ap, sym, _∙_}
-use Prim.Native.Nat.{ℕ, _≤_}
+use mathlib.Core.Path.{refl, ap, sym, _∙_}
+use Prim.Native.Nat.{_≤_}
 use native.Mathlib.Omega.{arith}
 use Rattle.basintilt.specs.Happenings.{eventOf, lengthIn}
 use Rattle.basintilt.specs.Lent.{journalOf}
