@@ -29,4 +29,4 @@ module _ (u : State) (range : InRange u) (whole : length (u .journal) ≡ 512 * 
   }
 
   pub possible : (c : Caller) (request : List ℕ) → Possible u (outcomeFor c request u .change)
-  possible c request = asked (outcomeFor c request u .change) (allowed u c request (range .node) (range .lss))
+  possible c request = asked (outcomeFor c request u .change) (allowed u c request range)

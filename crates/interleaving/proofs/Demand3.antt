@@ -33,7 +33,7 @@ served c false bytes n u false false p q = rw p
 module _ (c : Channel) (f : RunFrame) (u : State) (h : NotRefused u) where
   frame-does : result event (u .node) c f u ≡ does (isRequest f) c f u
   frame-does =
-      request-received (f .remote) (f .bytes) (f .length) u (h .0) (h .1) c
+      request-received (f .remote) (f .bytes) (f .length) u (h .0) (h .1) (Client c)
       ∙ served c (f .remote) (f .bytes) (f .length) u _ _ refl refl
 
   frame-stays : NotRefused (next c f u)

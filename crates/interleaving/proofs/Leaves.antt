@@ -8,6 +8,7 @@ use lib.IntN.{ℤ}
 use Rattle.rules.proofs.BySetting.{valued, zeroedAt, onSetting}
 use Rattle.rules.proofs.EachOutcome.{each-outcome}
 use Rattle.rules.proofs.Named.{Names, named}
+use Rattle.rules.proofs.Selection.{service-apart}
 use Rattle.rules.specs.declared.errors.ErrorList.{ErrorList}
 use Rattle.rules.specs.declared.journal.Origin.{Origin}
 use Rattle.rules.specs.declared.journal.Origin.the-variants.{Saved, Loaded}
@@ -21,7 +22,6 @@ use Rattle.rules.specs.declared.objects.Object.{Object}
 use Rattle.rules.specs.declared.objects.Object.the-variants.{Const, ErrorCount, ErrorEntry, Name, Save, Load, Filled, Angle, Of}
 use Rattle.rules.specs.declared.objects.Setting.{Setting}
 use Rattle.rules.specs.declared.objects.Setting.the-variants.{Heartbeat, Pdo, Resolution, Operating, Preset, Offset, Differential}
-use Rattle.rules.specs.declared.parts.Lss.{Lss}
 use Rattle.rules.specs.declared.parts.Transfer.{Transfer}
 use Rattle.rules.specs.declared.requests.Caller.the-variants.{Client}
 use Rattle.rules.specs.declared.requests.Change.{Change}
@@ -34,7 +34,7 @@ use Rattle.rules.specs.declared.settings.Settings.{Settings}
 use Rattle.rules.specs.Numbers.{signed}
 use Rattle.rules.specs.Objects.{sameSetting, settingRow, rowOf, objectAt}
 use Rattle.rules.specs.Requests.{command, indexOf, subindexOf, valueFor}
-use Rattle.rules.specs.Service.{Kept, outcome, onErrors, onKept, onLss, onTransfer}
+use Rattle.rules.specs.Service.{Kept, outcome, onErrors, onKept, onTransfer}
 use Rattle.rules.specs.Settings.{Held}
 use Rattle.rules.specs.State.{State}
 use Rattle.rules.specs.Writes.{zeroedBy, zeroChange, settingWrite, change}
@@ -44,15 +44,14 @@ use Rattle.interleaving.proofs.Members.{writesBy}
 use Rattle.interleaving.proofs.Uses.{sameChannel, objectOf, isWrite, altersOf}
 use Rattle.interleaving.specs.ReadsWrites.{journal, is}
 
--- what a change leaves: of the settings, the error list and what only a save, a load or a store changes, all that command and numbers do not write; and LSS
+-- what a change leaves: of the settings, the error list and what only a save, a load or a store changes, all that command and numbers do not write
 pub record Leaves (k : Command) (i s : ℕ) (e : Change) : Type 0 where
   pub running : (t : Setting) (x : Held t) → (T (writesBy k i s (objectOf t)) → ⊥) → onSetting e t x ≡ x
   pub errors : (x : ErrorList) → (T (isWrite k && is i s 0x1003 0) → ⊥) → onErrors e x ≡ x
   pub kept : (t : Settings) (x : Kept) → (T (writesBy k i s journal) → ⊥) → onKept e t x ≡ x
-  pub lss : (x : Lss) → onLss e x ≡ x
 
 keep-leaves : (k : Command) (i s : ℕ) → Leaves k i s Keep
-keep-leaves k i s = record { running = λ t x h. refl; errors = λ x h. refl; kept = λ t x h. refl; lss = λ x. refl }
+keep-leaves k i s = record { running = λ t x h. refl; errors = λ x h. refl; kept = λ t x h. refl }
 
 module _ (given : ℕ) where
   abbrev Written : Object → Change → Type 0
@@ -64,7 +63,6 @@ module _ (given : ℕ) where
     running = λ t x h. unless t x (sameSetting t s) _ h;
     errors = λ x h. refl;
     kept = λ t x h. refl;
-    lss = λ x. refl;
   }
     where
       unless : (t : Setting) (x : Held t) (a b : Bool) → (T (a || b) → ⊥) → cond a (valued t v) x ≡ x
@@ -89,7 +87,7 @@ module _ (given : ℕ) where
   zero-leaves a preset offset (Differential b) x h = refl
 
   preset-leaves : (a : Axis) (v : ℕ) (z : Zeroed) → Written (Of (Preset a)) (zeroChange a v z)
-  preset-leaves a v (To offset) = record { running = zero-leaves a (signed 16 v) offset; errors = λ x h. refl; kept = λ t x h. refl; lss = λ x. refl }
+  preset-leaves a v (To offset) = record { running = zero-leaves a (signed 16 v) offset; errors = λ x h. refl; kept = λ t x h. refl }
   preset-leaves a v (Refused code) = keep-leaves (Write given) _ 0
 
   module _ (c : Channel) (v : ℕ) (u : State) where
@@ -104,12 +102,12 @@ module _ (given : ℕ) where
 
     -- "1010:1 … writes the journal; 1011:1 writes the journal"
     fill-leaves : (o : Object) (from : Origin) → T (writesBy (Write given) (rowOf o .index) (rowOf o .subindex) journal) → Written o (Fill from)
-    fill-leaves o from w = record { running = λ s x h. refl; errors = λ x h. refl; kept = λ t x h. absurd (h w); lss = λ x. refl }
+    fill-leaves o from w = record { running = λ s x h. refl; errors = λ x h. refl; kept = λ t x h. absurd (h w) }
 
     -- "1003:0 all of 1003"
     change-leaves : (o : Object) → Written o (change c o v u)
     change-leaves (Const f) = keep-leaves (Write given) _ _
-    change-leaves ErrorCount = record { running = λ t x h. refl; errors = λ x h. absurd (h tt); kept = λ t x h. refl; lss = λ x. refl }
+    change-leaves ErrorCount = record { running = λ t x h. refl; errors = λ x h. absurd (h tt); kept = λ t x h. refl }
     change-leaves (ErrorEntry n) = keep-leaves (Write given) _ n
     change-leaves Name = keep-leaves (Write given) _ _
     change-leaves Save = fill-leaves Save (Saved c) tt
@@ -160,5 +158,5 @@ outcome-left c request u t heartbeat x h = absurd (h tt)
 outcome-left c request u t (pdo n) x h = absurd (h tt)
 outcome-left c request u t (transfer b) x h = transfer-left c b (outcome c request u .transfer) x h
 outcome-left c request u t (axis a) x h = refl
-outcome-left c request u t lss x h = outcome-leaves c request u .lss x
+outcome-left c request u t lss x h = service-apart c u x request
 outcome-left c request u t rest x h = refl

@@ -25,7 +25,7 @@ use Rattle.promises.specs.Untouched.{zeroRecord}
 use Rattle.promises.proofs.TwoFrames.{lent-frames, power-on-frames}
 
 -- the act of a call: it ends, sends and refuses alike
-record Acts (d : Device) (j : List ℕ) (r : Answer) (a : Device) (k : List ℕ) : Type 0 where
+pub record Acts (d : Device) (j : List ℕ) (r : Answer) (a : Device) (k : List ℕ) : Type 0 where
   pub act : Act
   pub state : done act (seen d j) .state ≡ seen a k
   pub sent : done act (seen d j) .sent ≡ framesIn r
@@ -35,7 +35,7 @@ record Acts (d : Device) (j : List ℕ) (r : Answer) (a : Device) (k : List ℕ)
 held-then : (v : State) (a : Device) (k : List ℕ) → a ≡ held v → k ≡ v .journal → v ≡ seen a k
 held-then v a k e f = rw (e, f) refl
 
-as-act : {d a : Device} {j k : List ℕ} {r : Answer} → Call d j r a k → Acts d j r a k
+pub as-act : {d a : Device} {j k : List ℕ} {r : Answer} → Call d j r a k → Acts d j r a k
 unfolding stepOf journalOf
 as-act {j} (powers node identity s p) = record {
   act = power node identity;
@@ -56,12 +56,12 @@ call-step {d} {a} {j} {k} c holds =
     let x = as-act c in
     subst (λ (f : List Frame). Step (seen d j) f (seen a k)) (x .sent) (subst (Step (seen d j) _) (x .state) (by-act (seen d j) holds (x .act)))
 
-pub calls-step : {d a : Device} {j k : List ℕ} → Calls d j a k → Holds (seen d j) → (frames : List Frame) × Step (seen d j) frames (seen a k)
+pub calls-step : {d a : Device} {j k : List ℕ} {frames : List Frame} → Calls d j frames a k → Holds (seen d j) → Step (seen d j) frames (seen a k)
 unfolding afterActs sentBy
-calls-step {d} {j} none holds = ([], along-acts [] (seen d j) holds)
+calls-step {d} {j} none holds = along-acts [] (seen d j) holds
 calls-step (next before c) holds =
-    let s = calls-step before holds .1 in
-    (_, along _ _ _ _ _ s (call-step c (s .holds)))
+    let s = calls-step before holds in
+    along _ _ _ _ _ s (call-step c (s .holds))
 
 -- a history from its first power-on, which does not look at the record
 pub history-step : {j k : List ℕ} {frames : List Frame} {r : Answer} {d : Device} → History j frames r d k → Step (unpowered j) frames (seen d k)

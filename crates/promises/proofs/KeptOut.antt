@@ -119,7 +119,7 @@ ending = 0x80 ∷ 0 ∷ 0 ∷ 0 ∷ 0 ∷ 0 ∷ 0 ∷ 0 ∷ []
 module _ (c : Channel) (u : State) (serves : Serves u) where
   on-channel : (bytes : List ℕ) → replies event c bytes u ≡ answered (Client c) (service.onCommand c bytes (command bytes) (objectAt (indexOf bytes) (subindexOf bytes)) u) u .sent
   unfolding onRequest
-  on-channel bytes = ap sent (request-received false bytes 8 u (serves .0 .0) (serves .0 .1) c) ∙ rw (serves .1)
+  on-channel bytes = ap sent (request-received false bytes 8 u (serves .0 .0) (serves .0 .1) (Client c)) ∙ rw (serves .1)
 
   first-bytes : (firstByte (replies event c read1000 u) ≡ 0x43) × (firstByte (replies event c read1018 u) ≡ 0x4F)
   unfolding commandOf find reply twoAt

@@ -1,17 +1,14 @@
 -- Filled blocks stay, call after call.
-use mathlib.Core.Path.{_≡_, refl, ap, sym, _∙_}
-use mathlib.Core.List.{List}
-use Prim.Native.Nat.{ℕ, _≤_}
+use mathlib.Core.Path.{refl, ap, sym, _∙_}
+use Prim.Native.Nat.{_≤_}
 use native.Mathlib.Omega.{arith}
-use lib.ListN.{length}
 use Rattle.basintilt.specs.Happenings.{eventOf, lengthIn}
 use Rattle.basintilt.specs.Lent.{journalOf}
-use Rattle.device.specs.declared.Device.{Device}
 use Rattle.device.specs.Seen.{seen}
 use Rattle.rules.specs.Acknowledged.{acknowledged}
 use Rattle.rules.specs.PowerOn.{savesIn}
 use Rattle.saves.proofs.NothingMakesRoom as saves
-use Rattle.promises.specs.Calls.{powers, lends, Calls, none, next}
+use Rattle.promises.specs.Calls.{powers, lends}
 use Rattle.promises.specs.NothingMakesRoom.{CallsOutsideTheNextBlock, CallsWithoutAcknowledgement, WhateverCallsFollow}
 use Rattle.promises.proofs.Calls.{call-step, calls-step, history-step}
 use Rattle.promises.proofs.TwoFrames.{lent-frames}
@@ -27,16 +24,12 @@ without-acknowledgement d a j k r (powers node identity s p) zero = refl
 without-acknowledgement d a j k r (lends h q b l p) zero =
     p .2 ∙ saves.without-acknowledgement (eventOf h) (h .bytes) (lengthIn h) (seen d j) (ap acknowledged (sym (lent-frames d j h q b l p)) ∙ zero)
 
-calls-length : {d a : Device} {j k : List ℕ} → Calls d j a k → length k ≡ length j
-calls-length none = refl
-calls-length (next before c) = outside-the-next-block _ _ _ _ _ c .0 ∙ calls-length before
-
 pub whatever-follows : WhateverCallsFollow
-whatever-follows j k l frames r d a history later =
+whatever-follows j k l before later r d a history calls =
     let now = history-step history in
     let names : d .saves .filled ≤ savesIn k .filled = now .names (omega arith) in
-    let byte = calls-step later (now .holds) .1 .byte in (
-      calls-length later,
-      λ i h. byte i (omega (arith, h, names)),
-      λ node identity s i p h. byte i (omega (arith, h, call-step (powers node identity s p) (now .holds) .names names)),
+    let step = calls-step calls (now .holds) in (
+      step .length,
+      λ i h. step .byte i (omega (arith, h, names)),
+      λ node identity s i p h. step .byte i (omega (arith, h, call-step (powers node identity s p) (now .holds) .names names)),
     )

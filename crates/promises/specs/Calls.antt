@@ -1,5 +1,5 @@
 -- What the recorder's C firmware may do: calls with any results that satisfy their promises, where "no one else writes buffer or record".
-use mathlib.Core.List.{List, _++_}
+use mathlib.Core.List.{List, [], _++_}
 use Prim.Native.Nat.{ℕ}
 use Rattle.answers.specs.declared.Answer.{Answer}
 use Rattle.basintilt.specs.declared.Happening.{Happening}
@@ -17,10 +17,10 @@ pub data Call (d : Device) (j : List ℕ) : Answer → Device → List ℕ → T
   powers : (node : ℕ) (identity : Identity) (r : Stepped) → PoweredOn node identity j r → Call d j (r .answer) (r .device) j
   lends : (h : Happening) (r : Answer) (a : Device) (k : List ℕ) → Lent d j h r a k → Call d j r a k
 
--- calls one after the other, each beside what the last one left
-pub data Calls (d : Device) (j : List ℕ) : Device → List ℕ → Type 0 where
-  none : Calls d j d j
-  next : {a b : Device} {k l : List ℕ} {r : Answer} → Calls d j a k → Call a k r b l → Calls d j b l
+-- calls one after the other, each beside what the last one left: the frames of all answers, and the record and the journal then
+pub data Calls (d : Device) (j : List ℕ) : List Frame → Device → List ℕ → Type 0 where
+  none : Calls d j [] d j
+  next : {frames : List Frame} {r : Answer} {a b : Device} {k l : List ℕ} → Calls d j frames a k → Call a k r b l → Calls d j (frames ++ framesIn r) b l
 
 -- a history of a journal begins with a power-on, refused or accepted, whatever record stood there before:
 -- the frames of all answers, the last answer, and the record and the journal then

@@ -5,4 +5,5 @@ pub mod TwoFrames
 pub mod Calls
 pub mod NothingMakesRoom
 pub mod Counted
+pub mod StoredNumber
 pub mod ByTheRecord

@@ -29,8 +29,8 @@ CallsWithoutAcknowledgement = (d a : Device) (j k : List ℕ) (r : Answer) → C
 -- in a history, whatever calls follow: the length stays, and so do, byte for byte, the blocks that the record names as filled and those that a power-on would count
 abbrev pub WhateverCallsFollow : Type 0
 WhateverCallsFollow =
-    (j k l : List ℕ) (frames : List Frame) (r : Answer) (d a : Device) →
-    History j frames r d k → Calls d k a l →
+    (j k l : List ℕ) (before later : List Frame) (r : Answer) (d a : Device) →
+    History j before r d k → Calls d k later a l →
     (length l ≡ length k)
     × ((i : ℕ) → i < 512 * d .saves .filled → getD l i 0 ≡ getD k i 0)
     × ((node : ℕ) (identity : Identity) (s : Stepped) (i : ℕ) → PoweredOn node identity k s → i < 512 * s .device .saves .filled → getD l i 0 ≡ getD k i 0)

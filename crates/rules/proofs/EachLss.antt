@@ -1,10 +1,10 @@
 -- The outcomes that an LSS request can have: what holds of each holds of the request's.
 use mathlib.Core.Path.{_≡_, refl}
-use mathlib.Core.Bool.{Bool, true, false, _&&_, _||_}
+use mathlib.Core.Bool.{Bool, true, false, _&&_}
 use mathlib.Core.List.{List}
 use Prim.Native.Nat.{ℕ, _+_, _≤_, _%_}
 use native.Mathlib.Omega.{arith}
-use borrow.Author.Tests.{eqb-false, ne-eqb, le-leb}
+use borrow.Author.Tests.{ne-eqb, le-leb}
 use lib.Dec.{eqb, leb}
 use lib.ListN.{getD}
 use Rattle.laws.proofs.Bools.{cond-both, cond-each}
@@ -25,6 +25,7 @@ use Rattle.rules.specs.Ranges.{nodeOk, lssOk}
 use Rattle.rules.specs.State.{State, stopped, waiting, configuration, lastSet}
 use Rattle.rules.specs.Writes.{roomCheck}
 use Rattle.rules.proofs.Nodes.{node-small, lss-in, lss-node, lss-mode, lss-matches}
+use Rattle.rules.proofs.Selection.{each-select}
 
 few : (p : IdentityPart) → matchesBefore p ≤ 3
 few Vendor = omega arith
@@ -55,14 +56,12 @@ module _ (request : List ℕ) (u : State) (P : Outcome → Type 0) where
     switches mode =
         cond-each (λ (e : Change). P (lssSilent e)) (leb mode 1) (λ m. each .changed _ (λ h. lss-in mode 0 (u .lss .node) m refl (lss-node (u .lss) h))) (λ m. each .silent)
 
-    selects : (before : ℕ) → before ≤ 3 → (same : Bool) → P (onSelect before same (u .lss))
-    unfolding onSelect
-    selects before most same =
-        cond-both P (same && (eqb before 0 || eqb (u .lss .matches) before))
-        (cond-each P (eqb before 3)
-        (λ last. each .configured 0x44 _ refl (λ h. lss-in 1 0 (u .lss .node) refl refl (lss-node (u .lss) h)))
-        (λ more. each .changed _ (λ h. lss-in 0 (before + 1) (u .lss .node) refl (le-leb (before + 1) 3 (omega (arith, eqb-false before 3 more))) (lss-node (u .lss) h))))
-        (each .changed _ (λ h. lss-in 0 0 (u .lss .node) refl refl (lss-node (u .lss) h)))
+    selects : (part : ℕ) → part ≤ 3 → (same : Bool) → P (onSelect part same (u .lss))
+    selects part most same =
+        each-select part same (u .lss) P
+        (λ m last. each .configured 0x44 _ refl (λ h. lss-in 1 0 (u .lss .node) refl refl (lss-node (u .lss) h)))
+        (λ m more. each .changed _ (λ h. lss-in 0 (part + 1) (u .lss .node) refl (le-leb (part + 1) 3 (omega (arith, more))) (lss-node (u .lss) h)))
+        (λ m. each .changed _ (λ h. lss-in 0 0 (u .lss .node) refl refl (lss-node (u .lss) h)))
 
     sets : (n : ℕ) → P (onSetNode n (u .lss))
     unfolding onSetNode

@@ -8,7 +8,8 @@ use lib.Dec.{eqb, leb}
 use Rattle.laws.proofs.Bools.{both, left, right, cond-each}
 use Rattle.rules.specs.declared.parts.Lss.{Lss}
 use Rattle.rules.specs.Ranges.{nodeOk, lssOk}
-use Rattle.rules.specs.State.{mostNode, nodeOrNone, nodeElse, configuration}
+use Rattle.rules.specs.State.{State, mostNode, nodeOrNone, nodeElse, lastSet, configuration}
+use Rattle.rules.proofs.InRange.{InRange}
 
 pub node-small : (n : ℕ) → nodeOk n ≡ true → nodeOrNone n ≡ true
 node-small n e = right (leb 1 n) (leb n mostNode) e
@@ -32,3 +33,7 @@ module _ (l : Lss) (e : lssOk l ≡ true) where
 
   pub lss-matches : leb (l .matches) 3 ≡ true
   lss-matches = right (leb (l .mode) configuration) (leb (l .matches) 3) (left (leb (l .mode) configuration && leb (l .matches) 3) (nodeOrNone (l .node)) e)
+
+-- the number that a reset takes and a store stores
+pub last-set : (u : State) → InRange u → nodeOk (lastSet u) ≡ true
+last-set u range = node-else (u .lss .node) (u .node) (lss-node (u .lss) (range .lss)) (range .node)

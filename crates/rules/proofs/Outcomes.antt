@@ -33,7 +33,7 @@ use Rattle.rules.specs.Events.{outcomeFor}
 use Rattle.rules.specs.Lss.{lssOutcome}
 use Rattle.rules.specs.Numbers.{fourAt, fits, signed}
 use Rattle.rules.specs.Objects.{rowOf, settingRow}
-use Rattle.rules.specs.Ranges.{transferOk, nodeOk, lssOk}
+use Rattle.rules.specs.Ranges.{transferOk, lssOk}
 use Rattle.rules.specs.Requests.{valueFor}
 use Rattle.rules.specs.Service.{outcome, carrying}
 use Rattle.rules.specs.Settings.{within, pdoWithin, axisSettings}
@@ -42,7 +42,8 @@ use Rattle.rules.specs.Writes.{_then_, unless, lengthCheck, roomCheck, z
 use Rattle.rules.proofs.BySetting.{valued}
 use Rattle.rules.proofs.EachLss.{each-lss}
 use Rattle.rules.proofs.EachOutcome.{each-outcome}
-use Rattle.rules.proofs.Nodes.{node-small, node-else, lss-node}
+use Rattle.rules.proofs.InRange.{InRange}
+use Rattle.rules.proofs.Nodes.{node-small, last-set}
 use Rattle.rules.proofs.Ranges.{signed-fits}
 
 -- a store stores a node number
@@ -173,20 +174,20 @@ module _ (u : State) where
       })
 
   -- an LSS request: LSS stays in its range, and a store's number is a node number
-  master-allowed : (request : List ℕ) → nodeOk (u .node) ≡ true → lssOk (u .lss) ≡ true → Allowed u (lssOutcome request u .change)
-  master-allowed request node lss =
+  master-allowed : (request : List ℕ) → InRange u → Allowed u (lssOutcome request u .change)
+  master-allowed request range =
       each-lss request u (λ (o : Outcome). Allowed u (o .change))
       (record {
         silent = tt;
-        changed = λ l h. h lss;
-        configured = λ first l n h. h lss;
+        changed = λ l h. h (range .lss);
+        configured = λ first l n h. h (range .lss);
         answered = λ first n h. tt;
-        stored = λ e. fill-allowed (Stored (lastSet u)) (node-small (lastSet u) (node-else (u .lss .node) (u .node) (lss-node (u .lss) lss) node)) e;
+        stored = λ e. fill-allowed (Stored (lastSet u)) (node-small (lastSet u) (last-set u range)) e;
       })
 
-  pub allowed : (c : Caller) (request : List ℕ) → nodeOk (u .node) ≡ true → lssOk (u .lss) ≡ true → Allowed u (outcomeFor c request u .change)
-  allowed (Client c) request node lss = client-allowed c request
-  allowed Master request node lss = master-allowed request node lss
+  pub allowed : (c : Caller) (request : List ℕ) → InRange u → Allowed u (outcomeFor c request u .change)
+  allowed (Client c) request range = client-allowed c request
+  allowed Master request range = master-allowed request range
 
   -- a channel's transfer stays absent, at the start or after seven bytes
   client-transfer : (c : Channel) (request : List ℕ) → transferOk (transferOf c u) ≡ true → transferOk (outcome c request u .transfer) ≡ true

@@ -201,4 +201,4 @@ pub served-in : (c : Caller) (request : List ℕ) (u : State) → inRange u ≡ 
     → (inRange (stateAfter c (outcomeFor c request u) u) ≡ true) × (journalFits (stateAfter c (outcomeFor c request u) u) ≡ true)
 served-in c request u e fit =
     let r = parts u e in
-    after-in u r fit c (outcomeFor c request u) (transfer-in u c request (own u r fit)) (allowed u c request (r .node) (r .lss))
+    after-in u r fit c (outcomeFor c request u) (transfer-in u c request (own u r fit)) (allowed u c request r)

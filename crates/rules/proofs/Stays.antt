@@ -33,7 +33,7 @@ use Rattle.rules.specs.State.{State, operational, stopped, preOperationa
 use Rattle.rules.specs.Time.{sending, timerRuns, syncCounts, onTick, onSync}
 use Rattle.rules.proofs.EachEvent.{each-event}
 use Rattle.rules.proofs.InRange.{InRange, parts, together, saves-parts}
-use Rattle.rules.proofs.Nodes.{node-else, lss-in, lss-node}
+use Rattle.rules.proofs.Nodes.{node-else, lss-in, lss-node, last-set}
 use Rattle.rules.proofs.Ranges.{no-errors-in, no-elapsed-in, no-counts-in, entered-in}
 use Rattle.rules.proofs.Run.{sized, saves-in}
 use Rattle.rules.proofs.Served.{served-in}
@@ -104,12 +104,8 @@ module _ (u : State) (fine : NotRefused u) where
   reading-stays Y m =
       moved-in _ _ _ _ _ _ (is .network) (is .heartbeat) (is .pdo) (errors-in Y (fails m (u .y))) (is .x) (measured-in m (u .y) (is .y))
 
-  -- the number that a reset takes
   set : nodeOrNone (u .lss .node) ≡ true
   set = lss-node (u .lss) (is .lss)
-
-  due : nodeOk (lastSet u) ≡ true
-  due = node-else (u .lss .node) (u .node) set (is .node)
 
   -- 82h: 1017 and 1800 of the stored settings beside the others
   communicating-stays : NotRefused (communicating u)
@@ -117,7 +113,7 @@ module _ (u : State) (fine : NotRefused u) where
       let stored = saves-parts (u .saves) (is .saves) .stored in (
         together (communicating u)
             (record {
-              node = due;
+              node = last-set u is;
               network = refl;
               saves = is .saves;
               running = in-table (communicating u .running) (mixed stored);
@@ -150,7 +146,7 @@ module _ (u : State) (fine : NotRefused u) where
 
   started-stays : NotRefused (start (lastSet u) (u .identity) (u .saves) (u .lss .node) (u .journal) .state)
   unfolding start
-  started-stays = (started-in (lastSet u) (u .identity) (u .saves) (u .lss .node) (u .journal) due (is .saves) set, fine .1)
+  started-stays = (started-in (lastSet u) (u .identity) (u .saves) (u .lss .node) (u .journal) (last-set u is) (is .saves) set, fine .1)
 
   pub event-stays : (e : Event) (bytes : List ℕ) (length : ℕ) → NotRefused (event e bytes length u .state)
   event-stays =
