@@ -3,12 +3,12 @@ use mathlib.Core.Path.{_≡_, refl, ap, sym, subst, _∙_}
 use mathlib.Core.Bool.{true}
 use Prim.Native.Nat.{ℕ, _+_, _*_, _≤_}
 use native.Mathlib.Omega.{arith}
-use lib.Dec.{eqb, leb}
+use lib.Dec.{eqb}
 use lib.IntN.{ℤ}
 use lib.ListN.{length}
 use borrow.Author.Tests.{eqb-true, le-leb}
-use Rattle.laws.proofs.Bools.{both, right, cond-each, cond-both, one-of}
-use mathlib.Core.List.{List, [], _∷_}
+use Rattle.laws.proofs.Bools.{both, right, cond-each, cond-both}
+use mathlib.Core.List.{List}
 use Rattle.rules.specs.declared.journal.Origin.{Origin}
 use Rattle.rules.specs.declared.journal.Origin.the-variants.{Saved, Loaded, Stored}
 use Rattle.rules.specs.declared.objects.Axis.{Axis}
@@ -25,15 +25,14 @@ use Rattle.rules.specs.declared.requests.Caller.the-variants.{Client, Ma
 use Rattle.rules.specs.declared.requests.Change.{Change}
 use Rattle.rules.specs.declared.requests.Change.the-variants.{Keep, Put, Zero, Empty, Configure, Fill}
 use Rattle.rules.specs.declared.requests.Outcome.{Outcome}
-use Rattle.rules.specs.declared.settings.Settings.{Settings}
-use Rattle.rules.specs.Block.{mostBlocks, blockFrom, originChannel, originKind}
+use Rattle.rules.specs.Block.{blockFrom, originChannel, originKind}
 use Rattle.rules.specs.Events.{journalFits, outcomeFor}
-use Rattle.rules.specs.Numbers.{between, fits}
+use Rattle.rules.specs.Numbers.{fits}
 use Rattle.rules.specs.Objects.{sameSetting}
 use Rattle.rules.specs.Ranges.{inRange, savesOk, errorsOk, elapsedOk, countsOk, transferOk, lssOk}
 use Rattle.rules.specs.Service.{Kept, stateAfter, putPdo, runningAfter, onErrors, keptIn, onKept, stores, storing, onHeartbeat, onCounts, onTransfer, onLss, carrying}
 use Rattle.rules.specs.Settings.{Held, every, inTable, setting, within}
-use Rattle.rules.specs.State.{State, absent, transferring, place, transferOf, nodeOrNone}
+use Rattle.rules.specs.State.{State, absent, transferring, place, transferOf}
 use Rattle.rules.proofs.Block.{block-length}
 use Rattle.rules.proofs.InRange.{InRange, parts, together, SavesInRange, saves-parts, saves-together}
 use Rattle.rules.proofs.BySetting.{valued, sameAxis, zeroedAt, onSetting, by-setting}

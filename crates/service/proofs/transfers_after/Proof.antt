@@ -1,7 +1,6 @@
 -- `transfers_after` meets its contract: a channel has its own transfer, and LSS leaves the two that there are.
 use mathlib.Core.Path.{_≡_, refl}
 use mathlib.Core.List.{List, [], _∷_}
-use Prim.Native.Nat.{suc}
 use native.Mathlib.Omega.{arith}
 use borrow.Author.Needs.{needs}
 use lib.ListN.{length, getD}
