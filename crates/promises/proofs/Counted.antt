@@ -1,4 +1,4 @@
--- Filled blocks equal the acknowledged saves and loads, call after call.
+-- Filled blocks equal the acknowledged saves, loads and stores, call after call.
 use mathlib.Core.Path.{_≡_, ap, _∙_}
 use native.Mathlib.Omega.{arith}
 use Rattle.rules.specs.declared.parts.Saves.{Saves}

@@ -1,4 +1,4 @@
--- "From a blank journal, filled blocks equal the acknowledged saves and loads counted in the frames, across resets and power-ons".
+-- "From a blank journal, filled blocks equal the acknowledged saves and loads counted in the frames, across resets and power-ons", and with item 1 of 02 the stores.
 use mathlib.Core.Path.{_≡_}
 use mathlib.Core.List.{List}
 use Prim.Native.Nat.{ℕ}

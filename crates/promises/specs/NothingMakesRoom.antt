@@ -22,7 +22,7 @@ CallsOutsideTheNextBlock =
     × ((i : ℕ) → i < 512 * d .saves .filled → getD k i 0 ≡ getD j i 0)
     × ((i : ℕ) → 512 * (d .saves .filled + 1) ≤ i → getD k i 0 ≡ getD j i 0)
 
--- where its answer acknowledges no save and no load, no byte changes at all
+-- where its answer acknowledges no save, no load and no store, no byte changes at all
 abbrev pub CallsWithoutAcknowledgement : Type 0
 CallsWithoutAcknowledgement = (d a : Device) (j k : List ℕ) (r : Answer) → Call d j r a k → acknowledged (framesIn r) ≡ 0 → k ≡ j
 

@@ -132,7 +132,7 @@ put (Differential a) v t =
     let s = axisSettings a t in
     withAxis a (record { operating = s .operating; preset = s .preset; offset = s .offset; differential = signed 16 v }) t
 
--- "running ones wait for a reset": a save or a load leaves them
+-- "running ones wait for a reset": a save, a load or a store leaves them
 abbrev pub runningAfter : Change → Settings → Settings
 runningAfter Keep t = t
 runningAfter (Put s v) t = put s v t
