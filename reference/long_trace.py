@@ -802,6 +802,82 @@ def lss_stores(t):
         t.read(1, 0x2100)
 
 
+def operate(t, x, y):
+    t.write(0, 0x6011, 0, 1, x)
+    t.write(1, 0x6021, 0, 1, y)
+
+
+def opposite_readings(t, value):
+    t.reading("X", value)
+    t.reading("Y", -value)
+
+
+def opposite_presets(t, value, preset):
+    """Y gets the complement of X's preset, which is as far from the other end of 16 bits."""
+    for axis, base, m, number in (("X", 0x6010, value, preset), ("Y", 0x6020, -value, ~preset)):
+        t.reading(axis, m)
+        t.write(1, base + 2, 0, 2, number & 0xFFFF)
+        t.read(0, base + 3)
+
+
+def angles_at_halves(t, resolution):
+    """Shows readings at and beside two halves and at the ends, then reads the halves inverted."""
+    first, second = resolution // 2, resolution + resolution // 2
+    near = {sign * (half + step)
+            for sign in (-1, 1) for half in (first, second) for step in (-1, 0, 1)}
+    t.write(0, 0x6000, 0, 2, resolution)
+    operate(t, 0, 1)
+    for value in sorted(near | {-180000, 180000 - first}):
+        opposite_readings(t, value)
+        t.sync()
+    operate(t, 1, 0)
+    for value in (first, -second):
+        opposite_readings(t, value)
+        t.read(0, 0x6010)
+        t.read(1, 0x6020)
+
+
+def presets_at_halves(t):
+    for operating in (2, 3):
+        operate(t, operating, operating)
+        for value, preset in ((12345, 0), (-19, 0), (5, 3), (5, -32768)):
+            opposite_presets(t, value, preset)
+        t.sync()
+
+
+def sums_at_halves(t):
+    """A half against the sign of offset and differential would round otherwise in the sum."""
+    operate(t, 2, 2)
+    t.write(0, 0x6014, 0, 2, 2)
+    t.write(0, 0x6024, 0, 2, 0xFFFE)
+    opposite_presets(t, 5, -2)
+    for x, y in ((2, 3), (3, 2)):
+        operate(t, x, y)
+        for value in (-5, 15):
+            opposite_readings(t, value)
+            t.sync()
+    operate(t, 2, 2)
+    opposite_presets(t, -5, -32767)
+
+
+def near_level(t):
+    """Rounding of q: halves at every resolution, under presets, in sums and after a reset."""
+    t.power_on(0x1C)
+    t.pdo_type(1)
+    t.start()
+    for resolution in (1, 10, 100, 1000):
+        angles_at_halves(t, resolution)
+    t.write(0, 0x6000, 0, 2, 10)
+    presets_at_halves(t)
+    sums_at_halves(t)
+    t.write(0, 0x6000, 0, 2, 100)
+    t.write(0, 0x1010, 1, 4, SAVE)
+    t.network(0x81)
+    opposite_readings(t, 90)
+    for index in (0x6010, 0x6013, 0x6020, 0x6023):
+        t.read(1, index)
+
+
 def random_request(t, chance):
     channel = chance.number(2)
     kind = chance.number(20)
@@ -878,7 +954,8 @@ def main():
                     every_written_value, first_bytes, unknown_objects, network_commands, segments,
                     saves_until_full, readings, angles, zeros, ticks, writes_between_ticks, syncs,
                     frame_lengths, malformed_lines, lss_switches, lss_selections,
-                    lss_between_matches, lss_numbers, lss_resets, lss_outside_stopped, lss_stores):
+                    lss_between_matches, lss_numbers, lss_resets, lss_outside_stopped, lss_stores,
+                    near_level):
         section(t)
     chance = Chance(0x54494C54)
     t.power_on(0x01)

@@ -14,12 +14,14 @@ use rules::states;
 // What the PDO carries where there is no angle.
 const NO_ANGLE: i16 = -32768;
 
-// The whole steps of r in m, cut toward zero.
+// m / r rounded to the nearest whole number, halves away from zero: moved half of r away from zero, then cut.
 fn steps(m: i32, r: u16) -> i32
-    requires { ⌜ within Resolution r ≡ true ⌝ }
+    requires { ⌜ (within Resolution r ≡ true) × (inside m ≡ true) ⌝ }
     ensures { λ t. ⌜ t ≡ steps m r ⌝ }
 {
-    m / (r as i32)
+    let half = (r / 2) as i32;
+    let moved = if m < 0 { m - half } else { m + half };
+    moved / (r as i32)
 }
 
 // The steps with the sign that bit 0 of 6011 gives them.

@@ -1,17 +1,17 @@
 -- Laws of the ranges: what the width of a field says, and what a record in its ranges says of each part.
-use mathlib.Core.Path.{_≡_, refl, sym, _∙_}
+use mathlib.Core.Path.{_≡_, refl, sym, _∙_, subst}
 use mathlib.Core.Bool.{Bool, true, false, cond}
 use mathlib.Core.List.{[], _∷_}
 use Prim.Native.Nat.{ℕ, zero, suc, _+_, _-_, _≤_, _<_}
 use native.Mathlib.Numerals.{add-one}
 use native.Mathlib.Omega.{arith}
-use borrow.Author.Tests.{eqb-true, le-leb, lt-ltb, ltb-true, ltb-false}
+use borrow.Author.Tests.{eqb-true, leb-true, le-leb, lt-ltb, ltb-true, ltb-false}
 use lib.Dec.{eqb, ltb, leb, leb·suc-suc}
 use lib.IntN.{ℤ, pos, negsuc, natAbs}
 use lib.ListN.{getD}
 use lib.Seq.{getD-take}
 use lib.Signed.{mag, leZ}
-use Rattle.laws.proofs.Bools.{no, both, left, right, cond-both, cond-each, one-of}
+use Rattle.laws.proofs.Bools.{both, left, right, cond-both, cond-each, either, one-of}
 use Rattle.laws.proofs.Signed.{mag-within}
 use Rattle.rules.specs.declared.errors.ErrorList.{ErrorList}
 use Rattle.rules.specs.declared.objects.Setting.the-variants.{Resolution}
@@ -41,14 +41,23 @@ between-small z k n h e =
     let high = leZ z (pos n) in
     mag-within z k n h (left low high e) (right low high e)
 
+-- what holds of 1, 10, 100 and 1000 holds of a resolution
+pub each-resolution : (P : ℕ → Type 0) → P 1 → P 10 → P 100 → P 1000 → (r : ℕ) → within Resolution r ≡ true → P r
+each-resolution P one ten hundred thousand r =
+    let is : (n : ℕ) → P n → eqb r n ≡ true → P r = λ n p e. subst P (sym (eqb-true r n e)) p in
+    either _ _ (either _ _ (either _ _ (is 1 one) (is 10 ten)) (is 100 hundred)) (is 1000 thousand)
+
 -- a resolution divides
 pub resolution-above : (r : ℕ) → within Resolution r ≡ true → 0 < r
-resolution-above zero e = no e
-resolution-above (suc n) e = omega arith
+resolution-above = each-resolution (λ r. 0 < r) (omega arith) (omega arith) (omega arith) (omega arith)
 
 -- an axis's last good reading
 pub inside-small : (m : ℤ) → inside m ≡ true → mag m ≤ 180000
 inside-small m e = between-small m 179999 180000 (omega arith) e
+
+pub inside-size : (m : ℤ) → inside m ≡ true → natAbs m ≤ 180000
+inside-size (pos n) e = leb-true n 180000 e
+inside-size (negsuc n) e = omega (arith, leb-true n 179999 (left (leb n 179999) true e))
 
 zero-inside : (m : ℤ) → eqb (natAbs m) 0 ≡ true → inside m ≡ true
 zero-inside (pos n) e = le-leb n 180000 (omega (arith, eqb-true n 0 e))

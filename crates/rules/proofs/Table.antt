@@ -9,6 +9,7 @@ use lib.ListN.{getD}
 use borrow.Author.Tests.{eqb-true, leb-true}
 use Rattle.laws.proofs.Bools.{both, left, right, either}
 use Rattle.rules.proofs.Numbers.{to-most}
+use Rattle.rules.proofs.Ranges.{each-resolution}
 use Rattle.rules.specs.Numbers.{between}
 use Rattle.rules.specs.declared.objects.Axis.the-variants.{X, Y}
 use Rattle.rules.specs.declared.objects.PdoNumber.the-variants.{First}
@@ -88,6 +89,4 @@ pub timer-fits : (x : ℕ) → pdoWithin Timer x ≡ true → x < 0x10000
 timer-fits x e = omega (arith, leb-true x 65535 e)
 
 pub resolution-fits : (x : ℕ) → within Resolution x ≡ true → x < 0x10000
-resolution-fits x =
-    let is : (n : ℕ) → n < 0x10000 → eqb x n ≡ true → x < 0x10000 = λ n h e. rw (eqb-true x n e) h in
-    either _ _ (either _ _ (either _ _ (is 1 (lit< tt)) (is 10 (lit< tt))) (is 100 (lit< tt))) (is 1000 (lit< tt))
+resolution-fits = each-resolution (λ x. x < 0x10000) (lit< tt) (lit< tt) (lit< tt) (lit< tt)

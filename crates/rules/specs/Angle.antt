@@ -1,9 +1,9 @@
--- Angle and zero.
+-- Angle and zero, with item 2 of 02.
 use mathlib.Core.Bool.{Bool, cond}
-use Prim.Native.Nat.{ℕ, _/_, _%_}
+use Prim.Native.Nat.{ℕ, _+_, _*_, _/_, _%_}
 use lib.Dec.{eqb}
-use lib.IntN.{ℤ, pos, negℤ, _+ℤ_, _-ℤ_}
-use lib.Signed.{ltZ, quotZ}
+use lib.IntN.{ℤ, pos, negℤ, natAbs, _+ℤ_, _-ℤ_}
+use lib.Signed.{ltZ}
 use Rattle.rules.specs.declared.parts.Reading.{Reading}
 use Rattle.rules.specs.declared.requests.Zeroed.{Zeroed}
 use Rattle.rules.specs.declared.requests.Zeroed.the-variants.{To, Refused}
@@ -18,11 +18,15 @@ reversed operating = eqb (operating % 2) 1
 abbrev pub shifted : ℕ → Bool
 shifted operating = eqb (operating / 2 % 2) 1
 
--- "m / r cut toward zero"
-abbrev pub steps : ℤ → ℕ → ℤ
-steps m r = quotZ m (pos r)
+-- "(2|m| + r) / 2r cut"
+abbrev pub rounded : ℕ → ℕ → ℕ
+rounded size r = (2 * size + r) / (2 * r)
 
--- "q = s times (m / r cut toward zero)", "s is −1 where bit 0 of 6011 is set, else 1"
+-- "m / r rounded to the nearest whole number, halves away from zero": rounded by its size, with its sign
+unfoldable pub steps : ℤ → ℕ → ℤ
+steps m r = cond (ltZ m (pos 0)) (minus (rounded (natAbs m) r)) (pos (rounded (natAbs m) r))
+
+-- "q is to be s times m / r rounded", "s is −1 where bit 0 of 6011 is set, else 1"
 unfoldable pub q : ℤ → ℕ → ℕ → ℤ
 q m r operating = cond (reversed operating) (negℤ (steps m r)) (steps m r)
 

@@ -1,4 +1,4 @@
--- Sample values (a) to (l), one table.
+-- Sample values (a) to (l), with item 2 of 02, one table.
 use mathlib.Core.Path.{_≡_}
 use mathlib.Core.Bool.{Bool, true, false}
 use mathlib.Core.List.{List, [], _∷_}
@@ -34,7 +34,7 @@ abbrev pub asked : List Sample
 asked =
     angleOf (pos 12345) 10 0 (pos 0) ∷ angleOf (pos 12345) 10 1 (pos 0) ∷ angleOf (minus 19) 10 0 (pos 0) ∷
     angleOf (pos 180000) 1 0 (pos 0) ∷ angleOf (minus 180000) 1 0 (pos 0) ∷
-    presetOn (pos 12345) 10 (pos 0) ∷ angleOf (pos 12345) 10 2 (minus 1234) ∷
+    presetOn (pos 12345) 10 (pos 0) ∷ angleOf (pos 12345) 10 2 (minus 1235) ∷
     presetOn (pos 32000) 1 (minus 768) ∷ presetOn (pos 32000) 1 (minus 769) ∷
     passes (within Heartbeat 0) ∷ passes (within Heartbeat 25) ∷ passes (within Heartbeat 24) ∷
     passes (within (Pdo First Transmission) 240) ∷ passes (within (Pdo First Transmission) 254) ∷ passes (within (Pdo First Transmission) 0) ∷
@@ -44,9 +44,9 @@ asked =
 -- what the paper says
 abbrev pub told : List Sample
 told =
-    shows (pos 1234) ∷ shows (minus 1234) ∷ shows (minus 1) ∷
+    shows (pos 1235) ∷ shows (minus 1235) ∷ shows (minus 2) ∷
     shows (pos 32767) ∷ shows (minus 32767) ∷
-    zeroes (To (minus 1234)) ∷ shows (pos 0) ∷
+    zeroes (To (minus 1235)) ∷ shows (pos 0) ∷
     zeroes (To (minus 32768)) ∷ zeroes (Refused 0x06090030) ∷
     passes true ∷ passes true ∷ passes false ∷
     passes true ∷ passes true ∷ passes false ∷
