@@ -69,29 +69,29 @@ def sample(board, desk):
     check("boot-up", desk.wait(0x701), "00")
     desk.send(0x000, "0101")
     desk.line("x12345")
-    check("angle X by channel 1", desk.request(1, "4010600000000000"), "4B106000D2040000")
-    check("angle X by channel 2", desk.request(2, "4010600000000000"), "4B106000D2040000")
+    check("angle X by channel 1", desk.request(1, "4010600000000000"), "4B106000D3040000")
+    check("angle X by channel 2", desk.request(2, "4010600000000000"), "4B106000D3040000")
     check("save by channel 2", desk.request(2, "2310100173617665"), "6010100100000000")
     saved(board, 1, 2, 1)
-    check("the PDO of the timer", desk.wait(0x181), "D2040080")
+    check("the PDO of the timer", desk.wait(0x181), "D3040080")
     check("a write that is too short", desk.request(1, "2F00600003000000"), "8000600013000706")
 
 
 def angles(desk):
     desk.line("y-19")
     for channel in 1, 2:
-        check(f"angle X by channel {channel}", desk.read(channel, 0x6010), 1234)
+        check(f"angle X by channel {channel}", desk.read(channel, 0x6010), 1235)
         check(f"angle Y by channel {channel}", desk.read(channel, 0x6020), -1)
     check("the segmented string", [desk.request(1, text) for text in ("4008100000000000", "6000000000000000", "7000000000000000")],
           ["410810000A000000", "00424153494E5449", "194C543200000000"])
     check("a bit set", desk.write(2, 0x6011, 0, 1, 1), "written")
-    check("angle X, turned", desk.read(1, 0x6010), -1234)
+    check("angle X, turned", desk.read(1, 0x6010), -1235)
     check("a bit cleared", desk.write(2, 0x6011, 0, 0, 1), "written")
 
 
 def zero(board, desk):
     check("preset 0", desk.write(1, 0x6012, 0, 0, 2), "written")
-    check("the offset", desk.read(2, 0x6013), -1234)
+    check("the offset", desk.read(2, 0x6013), -1235)
     check("offset counted", desk.write(1, 0x6011, 0, 2, 1), "written")
     check("the angle at zero", desk.read(2, 0x6010), 0)
     check("save by channel 1", desk.write(1, 0x1010, 1, SAVE, 4), "written")
@@ -216,7 +216,7 @@ def numbered():
 def kept(desk, filled):
     """What a board has that was started on this journal."""
     check("filled blocks at start", desk.read(1, 0x2100), filled)
-    check("the saved offset at start", desk.read(2, 0x6013), -1234)
+    check("the saved offset at start", desk.read(2, 0x6013), -1235)
     desk.line("x12345")
     check("the angle at start", desk.read(1, 0x6010), 0)
 

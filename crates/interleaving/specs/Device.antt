@@ -11,13 +11,13 @@ use Rattle.rules.specs.Settings.{factory, pdoFactory}
 use Rattle.rules.specs.State.{State, configuration, operational, noTransfers, good, noCounts}
 use Rattle.interleaving.specs.Runs.{RunFrame}
 
--- an axis at 12345 thousandths, 1234 steps of 6000
+-- an axis at 12345 thousandths, 1235 steps of 6000
 abbrev pub goodReading : Reading
 goodReading = record { state = good; m = pos 12345 }
 
 -- its offsets are added, and its offset is the one of a preset of 7
 abbrev pub adding : AxisSettings
-adding = record { operating = 2; preset = pos 0; offset = minus 1227; differential = pos 0 }
+adding = record { operating = 2; preset = pos 0; offset = minus 1228; differential = pos 0 }
 
 -- node 1 in Operational, LSS in configuration with node 2 set, both axes like that, else factory settings, five errors listed, and one blank block
 unfoldable pub device : State

@@ -46,11 +46,11 @@ moved-is c =
     let s = c .before in
     ⊎-elim
     (λ w.
-      let t = below (record { before = s; if1 = w .0 }) in
-      simp (w .1, t, toZ-ofZ (s .fits .m), half s) (toZ-ofZ (simp t at (fits s))))
+    let t = below (record { before = s; if1 = w .0 }) in
+    simp (w .1, t, toZ-ofZ (s .fits .m), half s) (toZ-ofZ (simp t at (fits s))))
     (λ w.
-      let t = above (record { before = s; if1 = w .0 }) in
-      simp (w .1, t, toZ-ofZ (s .fits .m), half s) (toZ-ofZ (simp t at (fits s))))
+    let t = above (record { before = s; if1 = w .0 }) in
+    simp (w .1, t, toZ-ofZ (s .fits .m), half s) (toZ-ofZ (simp t at (fits s))))
     (c .if1 .came)
 
 quotient : (c : tie.Joined1) → SFits w32 (quotZ (moved (c .before .args .m) (c .before .args .r)) (pos (c .before .args .r)))
