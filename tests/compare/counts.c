@@ -132,5 +132,6 @@ void count_call(const struct pair *pair, const struct call *call)
     count_lss(pair, call);
     for (unsigned i = 0; i < answer->count && i < BASINTILT_MOST_FRAMES; i++) {
         count_frame(call, &answer->frames[i], pair->device.node);
+        count_angles(pair, call, &answer->frames[i]);
     }
 }

@@ -24,6 +24,11 @@ enum {
     SENT_KINDS
 };
 
+/* What an angle was worked out for, and where its reading stood: at a step, or between two of them. */
+enum { SHOWN, READ_ANGLE, ZEROED, ANGLE_USES };
+enum { WHOLE_STEP, BELOW_HALF, HALF_TO_ODD, HALF_TO_EVEN, ABOVE_HALF, PLACES };
+enum { AXES = 2, RESOLUTIONS = 4, SIGNS = 2 };
+
 enum { LSS_MODES = 2, NETWORK_STATES = 3, LSS_HEADS = 10, BYTE_VALUES = 256, MATCHES = 2 * IDENTITY_NUMBERS * (BASINTILT_MOST_MATCHES + 1) };
 
 enum {
@@ -108,6 +113,9 @@ struct counts {
     uint64_t named_power_ons[NAMED_POWER_ONS];
     uint64_t frames_under[NUMBER_SOURCES * FRAMES_UNDER];
     uint64_t reads_under[OBJECTS];
+    uint64_t roundings[ANGLE_USES * AXES * RESOLUTIONS * SIGNS * PLACES];
+    uint64_t sums_at_halves[AXES * SIGNS];
+    uint64_t zeros_by_rounding[AXES * 2];
 };
 
 extern struct counts counts;
@@ -115,11 +123,15 @@ extern const uint32_t abort_codes[ABORTS];
 extern const uint8_t reply_firsts[REPLIES];
 
 extern const uint8_t leaving_commands[LEAVING_COMMANDS];
+extern const uint16_t angle_resolutions[RESOLUTIONS];
 
 void count_call(const struct pair *pair, const struct call *call);
 
 /* What a power-on or an event says of LSS and of the node number. */
 void count_lss(const struct pair *pair, const struct call *call);
+
+/* What a frame of an answer says of an angle. */
+void count_angles(const struct pair *pair, const struct call *call, const struct basintilt_frame *frame);
 
 /* The channel, the kind and the number of a block that was asked about. */
 void count_block(const struct pair *pair, const struct call *call);
@@ -127,5 +139,6 @@ void count_block(const struct pair *pair, const struct call *call);
 /* Prints all counts; false where something was never reached. */
 bool show_counts(void);
 bool show_lss_counts(void);
+bool show_angle_counts(void);
 
 #endif

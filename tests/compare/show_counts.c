@@ -132,5 +132,6 @@ bool show_counts(void)
         TALLY("fields out of range by their high bytes alone", fields_refused_as_wide, show_field, false, has_wide_numbers),
     };
     bool all = show_tallies(tallies, sizeof tallies / sizeof tallies[0]);
-    return show_lss_counts() && all;
+    all = show_lss_counts() && all;
+    return show_angle_counts() && all;
 }

@@ -1,0 +1,62 @@
+/* Built cases of the angle: readings at and beside halves, in the PDO, in reads, in presets and in sums. */
+#include "built_angles.h"
+
+#include "happenings.h"
+#include "requests.h"
+#include "steps.h"
+
+enum { HALVES = 4 };
+
+static const uint16_t resolutions[] = {1, 10, 100, 1000};
+
+/* Presets on both sides of zero and at the ends of 16 bits, and the differentials beside them. */
+static const int16_t presets[][2] = {{0, 0}, {3, 2}, {-3, -2}, {INT16_MAX, 0}, {INT16_MIN, 0}};
+
+/* On both axes: an object's number is written, or the object is read. */
+static bool set_both(uint32_t index, uint8_t first, int32_t value)
+{
+    uint32_t number = (uint16_t)value;
+    return serve(0, first, index, 0, number) && serve(1, first, index + 0x10, 0, number);
+}
+
+static bool read_both(uint32_t index)
+{
+    return serve(1, READS, index, 0, 0) && serve(0, READS, index + 0x10, 0, 0);
+}
+
+/* The axes get opposite readings. Both are shown, read and taken as zeros, and the offsets stay for the reading that follows. */
+static bool use_reading(int32_t m, int32_t preset)
+{
+    return make_event(reading_of(BASINTILT_READING_X, m)) && make_event(reading_of(BASINTILT_READING_Y, -m)) && make_event(sync_frame())
+           && read_both(0x6010) && set_both(0x6012, 0x2B, preset) && read_both(0x6013) && make_event(sync_frame());
+}
+
+/* Halves on both sides of zero, the next thousandths beside them, and the ends of the readings. */
+static bool every_half(int32_t resolution, int32_t preset)
+{
+    bool same = true;
+    for (int32_t half = -HALVES; half <= HALVES && same; half++) {
+        int32_t m = half * resolution + resolution / 2;
+        same = use_reading(m - 1, preset) && use_reading(m, preset) && use_reading(m + 1, preset);
+    }
+    for (int32_t beside = -1; beside <= 1 && same; beside++) {
+        int32_t last_half = BASINTILT_FARTHEST - resolution / 2 + beside;
+        same = use_reading(last_half, preset) && use_reading(-last_half, preset) && use_reading(BASINTILT_FARTHEST, preset)
+               && use_reading(-BASINTILT_FARTHEST, preset);
+    }
+    return same;
+}
+
+/* Every resolution, both bits of 6011 and 6021, and every pair of preset and differential. */
+bool built_angle_cases(void)
+{
+    const uint32_t rows = sizeof presets / sizeof presets[0];
+    bool same = fresh_sensor() && serve(0, 0x2F, 0x1800, 2, 1);
+    for (uint32_t i = 0; i < 4 * 4 * rows && same; i++) {
+        const int16_t *row = presets[i / 16];
+        uint16_t resolution = resolutions[i / 4 % 4];
+        same = serve(0, 0x2B, 0x6000, 0, resolution) && set_both(0x6011, 0x2F, (int32_t)(i % 4)) && set_both(0x6014, 0x2B, row[1])
+               && every_half(resolution, row[0]);
+    }
+    return same;
+}

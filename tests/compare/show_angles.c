@@ -1,0 +1,41 @@
+/* Prints what was reached of rounding. */
+#include "counts.h"
+#include "tally.h"
+
+#include <stdio.h>
+
+static void show_rounding(unsigned which)
+{
+    static const char *const uses[ANGLE_USES] = {"PDO", "read", "preset"};
+    static const char *const places[PLACES] = {"a whole step", "below a half", "a half to an odd step", "a half to an even step", "above a half"};
+    unsigned kind = which / PLACES;
+    unsigned place = kind / 2 / RESOLUTIONS;
+    printf("%s of %c, 6000 is %u, %s, %s", uses[place / AXES], place % AXES == 0 ? 'X' : 'Y', angle_resolutions[kind / 2 % RESOLUTIONS],
+           kind % 2 == 0 ? "from 0 up" : "below 0", places[which % PLACES]);
+}
+
+/* Every thousandth is a whole step where 6000 is 1. */
+static bool can_be(unsigned which)
+{
+    return which / PLACES / 2 % RESOLUTIONS != 0 || which % PLACES == WHOLE_STEP;
+}
+
+static void show_sum(unsigned which)
+{
+    printf("%c, q %s", which / 2 == 0 ? 'X' : 'Y', which % 2 == 0 ? "above 0" : "below 0");
+}
+
+static void show_zero(unsigned which)
+{
+    printf("%c, %s", which / 2 == 0 ? 'X' : 'Y', which % 2 == 0 ? "refused" : "accepted");
+}
+
+bool show_angle_counts(void)
+{
+    const struct tally tallies[] = {
+        TALLY("readings between two steps", roundings, show_rounding, false, can_be),
+        TALLY("halves whose sum has the other sign", sums_at_halves, show_sum, true, NULL),
+        TALLY("presets that the cut q would judge otherwise", zeros_by_rounding, show_zero, true, NULL),
+    };
+    return show_tallies(tallies, sizeof tallies / sizeof tallies[0]);
+}
