@@ -77,7 +77,7 @@ static void count_zero(const struct basintilt_device *lent, unsigned axis, const
 {
     struct rounded rounded = round_axis(lent, axis);
     int32_t wanted = (int16_t)(request[4] | request[5] << 8) - settings_at(lent, axis)->differential;
-    count_use(lent, axis, ZEROED);
+    count_use(lent, axis, IN_PRESET);
     if (fits(wanted - rounded.nearest) != fits(wanted - rounded.cut)) {
         counts.zeros_by_rounding[2 * axis + fits(wanted - rounded.nearest)]++;
     }
@@ -93,7 +93,7 @@ static void count_angle_reply(const struct pair *pair, const struct call *call, 
         return;
     }
     if (bytes[0] == 0x4B && (index == 0x6010 || index == 0x6020)) {
-        count_shown(&pair->device, axis, READ_ANGLE);
+        count_shown(&pair->device, axis, IN_READ);
     }
     if (judged && two_bytes && (index == 0x6012 || index == 0x6022)) {
         count_zero(&pair->lent, axis, call->happening.bytes);
@@ -104,8 +104,8 @@ void count_angles(const struct pair *pair, const struct call *call, const struct
 {
     unsigned node = pair->device.node;
     if (frame->identifier == BASINTILT_PDO_AT + node) {
-        count_shown(&pair->device, 0, SHOWN);
-        count_shown(&pair->device, 1, SHOWN);
+        count_shown(&pair->device, 0, IN_PDO);
+        count_shown(&pair->device, 1, IN_PDO);
     }
     if (frame->identifier == BASINTILT_REPLY_ONE_AT + node || frame->identifier == BASINTILT_REPLY_TWO_AT + node) {
         count_angle_reply(pair, call, frame->bytes);

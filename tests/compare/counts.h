@@ -25,7 +25,7 @@ enum {
 };
 
 /* What an angle was worked out for, and where its reading stood: at a step, or between two of them. */
-enum { SHOWN, READ_ANGLE, ZEROED, ANGLE_USES };
+enum { IN_PDO, IN_READ, IN_PRESET, ANGLE_USES };
 enum { WHOLE_STEP, BELOW_HALF, HALF_TO_ODD, HALF_TO_EVEN, ABOVE_HALF, PLACES };
 enum { AXES = 2, RESOLUTIONS = 4, SIGNS = 2 };
 

@@ -63,7 +63,7 @@ static struct basintilt_happening any_reading(struct chance *chance, const struc
 {
     uint32_t far = BASINTILT_FARTHEST;
     uint32_t step = device->running.resolution;
-    uint32_t half = step * below(chance, far / step) + step / 2;
+    uint32_t half = step * below(chance, 200) + step / 2;
     uint32_t edge = PICK(chance, far, 32767 * step, 32768 * step, step, 0, half, half);
     uint32_t near = PICK(chance, edge - 1, edge, edge + 1);
     uint32_t good = below(chance, 2 * far + 1) - far;
