@@ -19,9 +19,10 @@ fn steps(m: i32, r: u16) -> i32
     requires { ⌜ (within Resolution r ≡ true) × (inside m ≡ true) ⌝ }
     ensures { λ t. ⌜ t ≡ steps m r ⌝ }
 {
-    let half = (r / 2) as i32;
+    let step = r as i32;
+    let half = step / 2;
     let moved = if m < 0 { m - half } else { m + half };
-    moved / (r as i32)
+    moved / step
 }
 
 // The steps with the sign that bit 0 of 6011 gives them.

@@ -16,8 +16,11 @@ use Rattle.angle.proofs.Halves.{moved, cut, moved-small}
 use Rattle.angle.proofs.steps.Statement.{statement}
 use Rattle.angle.proofs.steps.Tie as tie
 
-half : (c : tie.Start) → toZ w32 (c .args .r / 2) ≡ pos (c .args .r / 2)
-half c = toZ-pos w32 {n = c .args .r / 2} (omega (arith, c .fits .r))
+step : (c : tie.Start) → toZ w32 (c .args .r) ≡ pos (c .args .r)
+step c = toZ-pos w32 {n = c .args .r} (omega (arith, c .fits .r))
+
+half : (c : tie.Start) → SFits w32 (pos (c .args .r / 2))
+half c = record { sfits = omega (arith, c .fits .r) }
 
 fits : (c : tie.Start) → SFits w32 (moved (c .args .m) (c .args .r))
 fits c =
@@ -31,14 +34,17 @@ below c = simp (toZ-ofZ (c .before .fits .m)) at (c .if1 .taken)
 above : (c : tie.Else1) → ltZ (c .before .args .m) (pos 0) ≡ false
 above c = simp (toZ-ofZ (c .before .fits .m)) at (c .if1 .left)
 
-cast-half : tie.Need-cast-half
-cast-half c = search needs
+cast-step : tie.Need-cast-step
+cast-step c = search needs
+
+div-half : tie.Need-div-half
+div-half c = simp (step c) (omega arith, half c)
 
 sub-moved : tie.Need-sub-moved
-sub-moved c = simp (toZ-ofZ (c .before .fits .m), half (c .before)) (simp (below c) at (fits (c .before)))
+sub-moved c = simp (toZ-ofZ (c .before .fits .m), step (c .before), toZ-ofZ (half (c .before))) (simp (below c) at (fits (c .before)))
 
 add-moved : tie.Need-add-moved
-add-moved c = simp (toZ-ofZ (c .before .fits .m), half (c .before)) (simp (above c) at (fits (c .before)))
+add-moved c = simp (toZ-ofZ (c .before .fits .m), step (c .before), toZ-ofZ (half (c .before))) (simp (above c) at (fits (c .before)))
 
 -- what came of either arm
 moved-is : (c : tie.Joined1) → toZ w32 (c .if1 .moved) ≡ moved (c .before .args .m) (c .before .args .r)
@@ -47,23 +53,20 @@ moved-is c =
     ⊎-elim
     (λ w.
     let t = below (record { before = s; if1 = w .0 }) in
-    simp (w .1, t, toZ-ofZ (s .fits .m), half s) (toZ-ofZ (simp t at (fits s))))
+    simp (w .1, t, toZ-ofZ (s .fits .m), step s, toZ-ofZ (half s)) (toZ-ofZ (simp t at (fits s))))
     (λ w.
     let t = above (record { before = s; if1 = w .0 }) in
-    simp (w .1, t, toZ-ofZ (s .fits .m), half s) (toZ-ofZ (simp t at (fits s))))
+    simp (w .1, t, toZ-ofZ (s .fits .m), step s, toZ-ofZ (half s)) (toZ-ofZ (simp t at (fits s))))
     (c .if1 .came)
 
 quotient : (c : tie.Joined1) → SFits w32 (quotZ (moved (c .before .args .m) (c .before .args .r)) (pos (c .before .args .r)))
 quotient c = record { sfits = omega (arith, mag-quot (moved (c .before .args .m) (c .before .args .r)) (c .before .args .r), fits (c .before) .sfits) }
 
-cast-result : tie.Need-cast-result
-cast-result c = search needs
-
 div-result : tie.Need-div-result
-div-result c = simp (moved-is c, toZ-pos w32 {n = c .before .args .r} (omega arith)) (resolution-above (c .before .args .r) (c .before .pre .0), quotient c)
+div-result c = simp (moved-is c, step (c .before)) (resolution-above (c .before .args .r) (c .before .pre .0), quotient c)
 
 returns : tie.Need-returns
-returns c = simp (moved-is c, toZ-pos w32 {n = c .before .args .r} (omega arith)) (toZ-ofZ (quotient c) ∙ cut (c .before .args .m) (c .before .args .r))
+returns c = simp (moved-is c, step (c .before)) (toZ-ofZ (quotient c) ∙ cut (c .before .args .m) (c .before .args .r))
 
 pub steps-spec : {M : Type 1} → statement M
-steps-spec = tie.close (tie.spec cast-half sub-moved add-moved cast-result div-result returns)
+steps-spec = tie.close (tie.spec cast-step div-half sub-moved add-moved div-result returns)
