@@ -1,6 +1,6 @@
 -- A reading that is moved half of r away from zero and then cut toward zero is rounded, halves away from zero.
 use mathlib.Core.Path.{_≡_, sym, _∙_, ap}
-use mathlib.Core.Bool.{cond}
+use mathlib.Core.Bool.{Bool, cond}
 use Prim.Native.Nat.{ℕ, zero, suc, _+_, _*_, _/_, _≤_}
 use native.Mathlib.Nat.{suc-add, div-div-eq-div-mul}
 use native.Mathlib.Omega.{arith}
@@ -11,8 +11,12 @@ use Rattle.laws.proofs.Bools.{cond-both}
 use Rattle.laws.proofs.Signed.{mag-add, mag-sub}
 use Rattle.rules.specs.Angle.{rounded, steps}
 
+-- m moved by h, down where the test is true, else up; and away from zero by half of r
+abbrev pub moved-by : Bool → ℤ → ℤ → ℤ
+moved-by t m h = cond t (m -ℤ h) (m +ℤ h)
+
 abbrev pub moved : ℤ → ℕ → ℤ
-moved m r = cond (ltZ m (pos 0)) (m -ℤ pos (r / 2)) (m +ℤ pos (r / 2))
+moved m r = moved-by (ltZ m (pos 0)) m (pos (r / 2))
 
 -- by their sizes
 halved : (a r : ℕ) → (a + r / 2) / r ≡ rounded a r

@@ -22,8 +22,8 @@ low a r = omega (arith, div-mul-le-self (2 * a + r) (2 * r))
 high : (a r : ℕ) → 0 < r → 2 * a + r < 2 * (rounded a r * r) + 2 * r
 high a r h = omega (arith, lt-div-mul-add {a = 2 * a + r} {b = 2 * r} (omega arith))
 
-between : (a r k : ℕ) → 2 * (k * r) ≤ 2 * a + r → 2 * a + r < 2 * (k * r) + 2 * r → rounded a r ≡ k
-between a r k l h = div-eq-of-lt-le (2 * r) (omega arith) (omega arith)
+only-size : (a r k : ℕ) → 2 * (k * r) ≤ 2 * a + r → 2 * a + r < 2 * (k * r) + 2 * r → rounded a r ≡ k
+only-size a r k l h = div-eq-of-lt-le (2 * r) (omega arith) (omega arith)
 
 smaller : (a r : ℕ) → rounded a r ≤ a
 smaller a zero = omega (arith, div-zero (2 * a + 0))
@@ -103,7 +103,7 @@ upper a r k false e (near, over) =
 only-up : (a r : ℕ) (t : ℤ) → 0 < r → Rounded (pos a) r t → t ≡ pos (rounded a r)
 only-up a r (pos k) h s =
     let lower : 2 * (k * r) ≤ 2 * a + r = omega (arith, gap a (k * r), s .0) in
-    ap pos (sym (between a r k lower (upper a r k _ refl s)))
+    ap pos (sym (only-size a r k lower (upper a r k _ refl s)))
 only-up a r (negsuc k) h s =
     let far : 2 * (a + suc k * r) ≤ r = rw (negℤ-negℤ (pos (suc k * r))) at (s .0) in
     absurd (omega arith)

@@ -1,6 +1,6 @@
 -- `steps` meets its contract: a reading in range may be moved by half of r, and a resolution is above 0.
-use mathlib.Core.Path.{_≡_, _∙_}
-use mathlib.Core.Bool.{true, false}
+use mathlib.Core.Path.{_≡_, sym, _∙_, ap, subst}
+use mathlib.Core.Bool.{Bool, true, false}
 use mathlib.Core.Logic.{⊎-elim}
 use Prim.Native.Nat.{_/_}
 use borrow.Author.Needs.{needs}
@@ -9,30 +9,34 @@ use lib.Signed.{ltZ, quotZ}
 use lib.IntN.{ℤ, pos}
 use mir.Facts.{toZ-ofZ, toZ-pos}
 use mir.Syntax.{w32}
-use mir.Val.{SFits, toZ}
+use mir.Val.{SFits, toZ, ofZ}
 use Rattle.laws.proofs.Signed.{mag-quot}
 use Rattle.rules.proofs.Ranges.{resolution-above, inside-small}
-use Rattle.angle.proofs.Halves.{moved, cut, moved-small}
+use Rattle.angle.proofs.Halves.{moved-by, moved, cut, moved-small}
 use Rattle.angle.proofs.steps.Statement.{statement}
 use Rattle.angle.proofs.steps.Tie as tie
 
-step : (c : tie.Start) → toZ w32 (c .args .r) ≡ pos (c .args .r)
-step c = toZ-pos w32 {n = c .args .r} (omega (arith, c .fits .r))
+step : (s : tie.Start) → toZ w32 (s .args .r) ≡ pos (s .args .r)
+step s = toZ-pos w32 {n = s .args .r} (omega (arith, s .fits .r))
 
-half : (c : tie.Start) → SFits w32 (pos (c .args .r / 2))
-half c = record { sfits = omega (arith, c .fits .r) }
+half : (s : tie.Start) → SFits w32 (pos (s .args .r / 2))
+half s = record { sfits = omega (arith, s .fits .r) }
 
-fits : (c : tie.Start) → SFits w32 (moved (c .args .m) (c .args .r))
-fits c =
-    let m = c .args .m in
-    let r = c .args .r in
-    record { sfits = omega (arith, moved-small m r, inside-small m (c .pre .1), c .fits .r) }
+fits : (s : tie.Start) → SFits w32 (moved (s .args .m) (s .args .r))
+fits s =
+    let m = s .args .m in
+    let r = s .args .r in
+    record { sfits = omega (arith, moved-small m r, inside-small m (s .pre .1), s .fits .r) }
 
-below : (c : tie.Then1) → ltZ (c .before .args .m) (pos 0) ≡ true
-below c = simp (toZ-ofZ (c .before .fits .m)) at (c .if1 .taken)
+-- m and half of r as the machine reads them, and what either arm makes of them
+abbrev read-m : tie.Start → ℤ
+read-m s = toZ w32 (ofZ w32 (s .args .m))
 
-above : (c : tie.Else1) → ltZ (c .before .args .m) (pos 0) ≡ false
-above c = simp (toZ-ofZ (c .before .fits .m)) at (c .if1 .left)
+abbrev read-half : tie.Start → ℤ
+read-half s = toZ w32 (ofZ w32 (quotZ (toZ w32 (s .args .r)) (pos 2)))
+
+arm : (s : tie.Start) (t : Bool) → ltZ (read-m s) (pos 0) ≡ t → moved (s .args .m) (s .args .r) ≡ moved-by t (read-m s) (read-half s)
+arm s t e = simp (toZ-ofZ (s .fits .m), step s, toZ-ofZ (half s), simp (toZ-ofZ (s .fits .m)) at e)
 
 cast-step : tie.Need-cast-step
 cast-step c = search needs
@@ -41,23 +45,17 @@ div-half : tie.Need-div-half
 div-half c = simp (step c) (omega arith, half c)
 
 sub-moved : tie.Need-sub-moved
-sub-moved c = simp (toZ-ofZ (c .before .fits .m), step (c .before), toZ-ofZ (half (c .before))) (simp (below c) at (fits (c .before)))
+sub-moved c = subst (SFits w32) (arm (c .before) true (c .if1 .taken)) (fits (c .before))
 
 add-moved : tie.Need-add-moved
-add-moved c = simp (toZ-ofZ (c .before .fits .m), step (c .before), toZ-ofZ (half (c .before))) (simp (above c) at (fits (c .before)))
+add-moved c = subst (SFits w32) (arm (c .before) false (c .if1 .left)) (fits (c .before))
 
--- what came of either arm
 moved-is : (c : tie.Joined1) → toZ w32 (c .if1 .moved) ≡ moved (c .before .args .m) (c .before .args .r)
 moved-is c =
     let s = c .before in
-    ⊎-elim
-    (λ w.
-    let t = below (record { before = s; if1 = w .0 }) in
-    simp (w .1, t, toZ-ofZ (s .fits .m), step s, toZ-ofZ (half s)) (toZ-ofZ (simp t at (fits s))))
-    (λ w.
-    let t = above (record { before = s; if1 = w .0 }) in
-    simp (w .1, t, toZ-ofZ (s .fits .m), step s, toZ-ofZ (half s)) (toZ-ofZ (simp t at (fits s))))
-    (c .if1 .came)
+    let kept : ofZ w32 (moved (s .args .m) (s .args .r)) ≡ c .if1 .moved =
+    ⊎-elim (λ w. ap (ofZ w32) (arm s true (w .0 .taken)) ∙ sym (w .1)) (λ w. ap (ofZ w32) (arm s false (w .0 .left)) ∙ sym (w .1)) (c .if1 .came) in
+    ap (toZ w32) (sym kept) ∙ toZ-ofZ (fits s)
 
 quotient : (c : tie.Joined1) → SFits w32 (quotZ (moved (c .before .args .m) (c .before .args .r)) (pos (c .before .args .r)))
 quotient c = record { sfits = omega (arith, mag-quot (moved (c .before .args .m) (c .before .args .r)) (c .before .args .r), fits (c .before) .sfits) }
