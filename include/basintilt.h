@@ -150,7 +150,8 @@ struct basintilt_errors {
     uint16_t codes[BASINTILT_MOST_ERRORS];
 };
 
-/* An axis and its last good reading, in thousandths of a degree. */
+/* An axis and its last good reading m, in thousandths of a degree. Its angle is m over the resolution, rounded to the nearest whole number,
+ * halves away from zero; then bit 0 of operating turns the sign, and bit 1 adds offset and differential. */
 struct basintilt_reading {
     uint32_t state;
     int32_t m;
