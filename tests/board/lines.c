@@ -101,7 +101,7 @@ static void lengths(void)
 
 static void written(void)
 {
-    struct basintilt_frame boot_up = {0x701, 1, {0}}, angles = {0x181, 4, {0xD2, 0x04, 0x00, 0x80}}, reply = {0x6AF, 8, {0x60, 0x10, 0x10, 0x01, 0, 0, 0, 0xFE}};
+    struct basintilt_frame boot_up = {0x701, 1, {0}}, angles = {0x181, 4, {0xD3, 0x04, 0x00, 0x80}}, reply = {0x6AF, 8, {0x60, 0x10, 0x10, 0x01, 0, 0, 0, 0xFE}};
     char line[SLCAN_MOST_WRITTEN];
     check(slcan_write(line, &boot_up, SLCAN_MINUTE) == 8 && memcmp(line, "t701100\r", 8) == 0, "boot-up written");
     check(slcan_write(line, &angles, SLCAN_MINUTE) == 14 && memcmp(line, "t1814D3040080\r", 14) == 0, "a PDO written");
