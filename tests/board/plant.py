@@ -81,7 +81,7 @@ def angles(desk):
     desk.line("y-19")
     for channel in 1, 2:
         check(f"angle X by channel {channel}", desk.read(channel, 0x6010), 1235)
-        check(f"angle Y by channel {channel}", desk.read(channel, 0x6020), -1)
+        check(f"angle Y by channel {channel}", desk.read(channel, 0x6020), -2)
     check("the segmented string", [desk.request(1, text) for text in ("4008100000000000", "6000000000000000", "7000000000000000")],
           ["410810000A000000", "00424153494E5449", "194C543200000000"])
     check("a bit set", desk.write(2, 0x6011, 0, 1, 1), "written")
@@ -106,7 +106,7 @@ def sync(desk):
     desk.settled()
     for _ in range(7):
         desk.send(0x080)
-    check("7 SYNCs with type 3", desk.settled(), 2 * [(0x181, "0000FFFF")])
+    check("7 SYNCs with type 3", desk.settled(), 2 * [(0x181, "0000FEFF")])
     check("type 253", desk.write(1, 0x1800, 2, 253, 1), "abort 06090030")
 
 
