@@ -151,7 +151,8 @@ struct basintilt_errors {
 };
 
 /* An axis and its last good reading m, in thousandths of a degree. Its angle is m over the resolution, rounded to the nearest whole number,
- * halves away from zero; then bit 0 of operating turns the sign, and bit 1 adds offset and differential. */
+ * halves away from zero; then bit 0 of operating turns the sign, bit 1 adds offset and differential,
+ * and what comes out is brought into -32767 to 32767. */
 struct basintilt_reading {
     uint32_t state;
     int32_t m;

@@ -12,7 +12,7 @@ static const uint16_t resolutions[] = {1, 10, 100, 1000};
 /* Presets on both sides of zero and at the ends of 16 bits, and the differentials beside them. */
 static const int16_t presets[][2] = {{0, 0}, {3, 2}, {-3, -2}, {INT16_MAX, 0}, {INT16_MIN, 0}};
 
-/* On both axes: an object's number is written, or the object is read. */
+/* The same number to X's object and to Y's, and a read of both. */
 static bool set_both(uint32_t index, uint8_t first, int32_t value)
 {
     uint32_t number = (uint16_t)value;

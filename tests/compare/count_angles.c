@@ -42,7 +42,7 @@ static void count_use(const struct basintilt_device *device, unsigned axis, unsi
     while (resolution + 1 < RESOLUTIONS && angle_resolutions[resolution] != device->running.resolution) {
         resolution++;
     }
-    unsigned kind = 2 * ((use * AXES + axis) * RESOLUTIONS + resolution) + (reading_at(device, axis)->m < 0);
+    unsigned kind = SIGNS * ((use * AXES + axis) * RESOLUTIONS + resolution) + (reading_at(device, axis)->m < 0);
     counts.roundings[kind * PLACES + round_axis(device, axis).place]++;
 }
 
@@ -55,7 +55,7 @@ static void count_sum(const struct basintilt_device *device, unsigned axis)
     bool is_half = rounded.place == HALF_TO_EVEN || rounded.place == HALF_TO_ODD;
     bool crosses = rounded.nearest > 0 ? rounded.nearest + added <= 0 : rounded.nearest + added >= 0;
     if (settings->operating >= 2 && is_half && crosses) {
-        counts.sums_at_halves[2 * axis + (rounded.nearest < 0)]++;
+        counts.sums_at_halves[SIGNS * axis + (rounded.nearest < 0)]++;
     }
 }
 
@@ -87,7 +87,7 @@ static void count_angle_reply(const struct pair *pair, const struct call *call, 
 {
     uint32_t index = bytes[1] | (uint32_t)bytes[2] << 8;
     unsigned axis = index >= 0x6020;
-    bool judged = bytes[0] == 0x60 || (bytes[0] == 0x80 && bytes[4] == (BASINTILT_ABORT_VALUE & 0xFF));
+    bool judged = bytes[0] == 0x60 || (bytes[0] == 0x80 && abort_code(bytes) == BASINTILT_ABORT_VALUE);
     bool two_bytes = call->happening.bytes[0] == 0x2B || call->happening.bytes[0] == 0x22;
     if (bytes[3] != 0) {
         return;

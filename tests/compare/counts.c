@@ -13,11 +13,15 @@ const uint32_t abort_codes[ABORTS] = {
 
 const uint8_t reply_firsts[REPLIES] = {0x60, 0x4F, 0x4B, 0x43, 0x41, 0x00, 0x19, 0x80};
 
+uint32_t abort_code(const uint8_t *bytes)
+{
+    return bytes[4] | (uint32_t)bytes[5] << 8 | (uint32_t)bytes[6] << 16 | (uint32_t)bytes[7] << 24;
+}
+
 static void count_abort(const uint8_t *bytes, unsigned channel)
 {
-    uint32_t code = bytes[4] | (uint32_t)bytes[5] << 8 | (uint32_t)bytes[6] << 16 | (uint32_t)bytes[7] << 24;
     for (unsigned i = 0; i < ABORTS; i++) {
-        counts.aborts[channel * ABORTS + i] += abort_codes[i] == code;
+        counts.aborts[channel * ABORTS + i] += abort_codes[i] == abort_code(bytes);
     }
 }
 

@@ -127,6 +127,9 @@ extern const uint16_t angle_resolutions[RESOLUTIONS];
 
 void count_call(const struct pair *pair, const struct call *call);
 
+/* The code of an abort's 8 bytes. */
+uint32_t abort_code(const uint8_t *bytes);
+
 /* What a power-on or an event says of LSS and of the node number. */
 void count_lss(const struct pair *pair, const struct call *call);
 

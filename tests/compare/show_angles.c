@@ -8,21 +8,23 @@ static void show_rounding(unsigned which)
 {
     static const char *const uses[ANGLE_USES] = {"PDO", "read", "preset"};
     static const char *const places[PLACES] = {"a whole step", "below a half", "a half to an odd step", "a half to an even step", "above a half"};
-    unsigned kind = which / PLACES;
-    unsigned place = kind / 2 / RESOLUTIONS;
-    printf("%s of %c, 6000 is %u, %s, %s", uses[place / AXES], place % AXES == 0 ? 'X' : 'Y', angle_resolutions[kind / 2 % RESOLUTIONS],
-           kind % 2 == 0 ? "from 0 up" : "below 0", places[which % PLACES]);
+    unsigned sign = which / PLACES % SIGNS;
+    unsigned resolution = which / PLACES / SIGNS % RESOLUTIONS;
+    unsigned axis = which / PLACES / SIGNS / RESOLUTIONS % AXES;
+    unsigned use = which / PLACES / SIGNS / RESOLUTIONS / AXES;
+    printf("%s of %c, 6000 is %u, %s, %s", uses[use], axis == 0 ? 'X' : 'Y', angle_resolutions[resolution],
+           sign == 0 ? "from 0 up" : "below 0", places[which % PLACES]);
 }
 
 /* Every thousandth is a whole step where 6000 is 1. */
 static bool can_be(unsigned which)
 {
-    return which / PLACES / 2 % RESOLUTIONS != 0 || which % PLACES == WHOLE_STEP;
+    return which / PLACES / SIGNS % RESOLUTIONS != 0 || which % PLACES == WHOLE_STEP;
 }
 
 static void show_sum(unsigned which)
 {
-    printf("%c, q %s", which / 2 == 0 ? 'X' : 'Y', which % 2 == 0 ? "above 0" : "below 0");
+    printf("%c, q %s", which / SIGNS == 0 ? 'X' : 'Y', which % SIGNS == 0 ? "above 0" : "below 0");
 }
 
 static void show_zero(unsigned which)

@@ -1,14 +1,14 @@
 -- A reading that is moved half of r away from zero and then cut toward zero is rounded, halves away from zero.
 use mathlib.Core.Path.{_≡_, sym, _∙_, ap}
 use mathlib.Core.Bool.{Bool, cond}
-use Prim.Native.Nat.{ℕ, zero, suc, _+_, _*_, _/_, _≤_}
+use Prim.Native.Nat.{ℕ, suc, _+_, _*_, _/_, _≤_}
 use native.Mathlib.Nat.{suc-add, div-div-eq-div-mul}
 use native.Mathlib.Omega.{arith}
 use borrow.Author.Tests.{le-ltb}
-use lib.IntN.{ℤ, pos, negsuc, negℤ, _+ℤ_, _-ℤ_, +ℤ-idr}
+use lib.IntN.{ℤ, pos, negsuc, negℤ, _+ℤ_, _-ℤ_}
 use lib.Signed.{mag, ltZ, quotZ}
 use Rattle.laws.proofs.Bools.{cond-both}
-use Rattle.laws.proofs.Signed.{mag-add, mag-sub}
+use Rattle.laws.proofs.Signed.{mag-add, mag-sub, from-below}
 use Rattle.rules.specs.Angle.{rounded, steps}
 
 -- m moved by h, down where the test is true, else up; and away from zero by half of r
@@ -24,14 +24,10 @@ halved a r =
     let whole : a + r / 2 ≡ (2 * a + r) / 2 = omega arith in
     ap (λ n. n / r) whole ∙ div-div-eq-div-mul (2 * a + r) 2 r
 
-below : (a h : ℕ) → negsuc a -ℤ pos h ≡ negsuc (a + h)
-below a zero = +ℤ-idr (negsuc a) ∙ ap negsuc (omega arith)
-below a (suc h) = ap negsuc (omega arith)
-
 pub cut : (m : ℤ) (r : ℕ) → quotZ (moved m r) (pos r) ≡ steps m r
 unfolding steps
 cut (pos a) r = simp (le-ltb a 0 (omega arith)) (ap pos (halved a r))
-cut (negsuc a) r = rw (below a (r / 2), sym (suc-add a (r / 2))) (ap (λ n. negℤ (pos n)) (halved (suc a) r))
+cut (negsuc a) r = rw (from-below a (r / 2), sym (suc-add a (r / 2))) (ap (λ n. negℤ (pos n)) (halved (suc a) r))
 
 pub moved-small : (m : ℤ) (r : ℕ) → mag (moved m r) ≤ suc (suc (mag m + r / 2))
 moved-small m r =

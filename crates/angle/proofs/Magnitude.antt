@@ -3,21 +3,17 @@ use mathlib.Core.Path.{_≡_}
 use mathlib.Core.Bool.{true}
 use Prim.Native.Nat.{ℕ, _≤_}
 use native.Mathlib.Omega.{arith}
-use lib.IntN.{ℤ, pos, negsuc, natAbs}
+use lib.IntN.{ℤ}
 use lib.Signed.{mag}
 use mir.Facts.{toZ-ofZ}
 use mir.Syntax.{w32}
 use mir.Val.{SFits, toZ, ofZ}
 use Rattle.laws.proofs.Bools.{cond-both}
-use Rattle.laws.proofs.Signed.{mag-neg}
+use Rattle.laws.proofs.Signed.{mag-neg, mag-size}
 use Rattle.rules.proofs.Ranges.{inside-size}
 use Rattle.rules.proofs.Rounding.{no-larger}
 use Rattle.rules.specs.Angle.{reversed, steps, q}
 use Rattle.rules.specs.Ranges.{inside}
-
-mag-size : (z : ℤ) → mag z ≤ natAbs z
-mag-size (pos n) = omega arith
-mag-size (negsuc n) = omega arith
 
 pub steps-small : (m : ℤ) (r : ℕ) → inside m ≡ true → mag (steps m r) ≤ 180000
 steps-small m r h = omega (arith, mag-size (steps m r), no-larger m r, inside-size m h)

@@ -52,9 +52,6 @@ pub resolution-above : (r : ℕ) → within Resolution r ≡ true → 0 < r
 resolution-above = each-resolution (λ r. 0 < r) (omega arith) (omega arith) (omega arith) (omega arith)
 
 -- an axis's last good reading
-pub inside-small : (m : ℤ) → inside m ≡ true → mag m ≤ 180000
-inside-small m e = between-small m 179999 180000 (omega arith) e
-
 pub inside-size : (m : ℤ) → inside m ≡ true → natAbs m ≤ 180000
 inside-size (pos n) e = leb-true n 180000 e
 inside-size (negsuc n) e = omega (arith, leb-true n 179999 (left (leb n 179999) true e))

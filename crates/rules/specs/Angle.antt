@@ -18,7 +18,7 @@ reversed operating = eqb (operating % 2) 1
 abbrev pub shifted : ℕ → Bool
 shifted operating = eqb (operating / 2 % 2) 1
 
--- "(2|m| + r) / 2r cut"
+-- a size over r, rounded: half of r is added before it is cut, so that a half goes up
 abbrev pub rounded : ℕ → ℕ → ℕ
 rounded size r = (2 * size + r) / (2 * r)
 

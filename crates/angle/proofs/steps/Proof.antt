@@ -10,8 +10,8 @@ use lib.IntN.{ℤ, pos}
 use mir.Facts.{toZ-ofZ, toZ-pos}
 use mir.Syntax.{w32}
 use mir.Val.{SFits, toZ, ofZ}
-use Rattle.laws.proofs.Signed.{mag-quot}
-use Rattle.rules.proofs.Ranges.{resolution-above, inside-small}
+use Rattle.laws.proofs.Signed.{mag-quot, mag-size}
+use Rattle.rules.proofs.Ranges.{resolution-above, inside-size}
 use Rattle.angle.proofs.Halves.{moved-by, moved, cut, moved-small}
 use Rattle.angle.proofs.steps.Statement.{statement}
 use Rattle.angle.proofs.steps.Tie as tie
@@ -26,7 +26,7 @@ fits : (s : tie.Start) → SFits w32 (moved (s .args .m) (s .args .r))
 fits s =
     let m = s .args .m in
     let r = s .args .r in
-    record { sfits = omega (arith, moved-small m r, inside-small m (s .pre .1), s .fits .r) }
+    record { sfits = omega (arith, moved-small m r, mag-size m, inside-size m (s .pre .1), s .fits .r) }
 
 -- m and half of r as the machine reads them, and what either arm makes of them
 abbrev read-m : tie.Start → ℤ
