@@ -1,4 +1,4 @@
-/* The sensor's C interface: power-on, one event on the recorder's own record, and the block query (libbasintilt.a).
+/* The sensor's C interface: power-on, one event on the recorder's own record, the block query and the origin query (libbasintilt.a).
  *
  * Duties of the caller, at every call:
  *  - no pointer is null, also where its length is 0; each is aligned for its type;
@@ -17,7 +17,8 @@ enum {
     BASINTILT_WRONG_LENGTH = 1,   /* journal length not 512 times 1 to 128, or not the length at power-on */
     BASINTILT_WRONG_FRAME = 2,    /* identifier over 7FFh or length over 8 */
     BASINTILT_OUT_OF_RANGE = 3,   /* a field of the record outside its range */
-    BASINTILT_WRONG_NODE = 4      /* node not 1 to 47 */
+    BASINTILT_WRONG_NODE = 4,     /* node not 1 to 47 */
+    BASINTILT_NO_SETTING = 6      /* index and subindex of no setting */
 };
 
 /* Kinds of happenings; any other number does nothing. */
@@ -31,6 +32,9 @@ enum {
 
 /* Answers of the block query. */
 enum { BASINTILT_GOOD = 0, BASINTILT_BLANK = 1, BASINTILT_NEITHER = 2 };
+
+/* What fills a block: a save or a load by channel 1 or 2, a store by LSS as channel 3. */
+enum { BASINTILT_BLOCK_SAVE = 1, BASINTILT_BLOCK_LOAD = 2, BASINTILT_BLOCK_STORE = 3, BASINTILT_BLOCK_LSS_CHANNEL = 3 };
 
 /* Numbers of the record: NMT states, transfers, axes, LSS modes and the most matches of an LSS selection that is not complete. */
 enum { BASINTILT_STOPPED = 4, BASINTILT_OPERATIONAL = 5, BASINTILT_PRE_OPERATIONAL = 127 };
@@ -193,6 +197,16 @@ struct basintilt_stepped {
     struct basintilt_answer answer;
 };
 
+/* Where the value of a setting comes from: the value in force after a power-on, 1800:1 as 1 or 0, and the number, channel and kind of the block
+ * that brought it, 0 each where it is the factory's. Where it is refused all else is 0. */
+struct basintilt_finding {
+    uint32_t refusal;
+    int32_t value;
+    uint32_t block;
+    uint32_t channel;
+    uint32_t kind;
+};
+
 /* A frame has identifier, length (9 can be said) and bytes; a tick ms; a reading m. What its kind does not use is ignored. */
 struct basintilt_happening {
     uint8_t kind;
@@ -271,6 +285,11 @@ BASINTILT_LONG(happening, 20, BASINTILT_BYTES(happening, kind) + BASINTILT_BYTES
 BASINTILT_AT(happening, kind, 0); BASINTILT_AT(happening, length, 1); BASINTILT_AT(happening, ms, 2);
 BASINTILT_AT(happening, identifier, 4); BASINTILT_AT(happening, m, 8); BASINTILT_AT(happening, bytes, 12);
 
+BASINTILT_LONG(finding, 20, BASINTILT_BYTES(finding, refusal) + BASINTILT_BYTES(finding, value) + BASINTILT_BYTES(finding, block)
+               + BASINTILT_BYTES(finding, channel) + BASINTILT_BYTES(finding, kind));
+BASINTILT_AT(finding, refusal, 0); BASINTILT_AT(finding, value, 4); BASINTILT_AT(finding, block, 8); BASINTILT_AT(finding, channel, 12);
+BASINTILT_AT(finding, kind, 16);
+
 #undef BASINTILT_BYTES
 #undef BASINTILT_LONG
 #undef BASINTILT_AT
@@ -284,5 +303,9 @@ struct basintilt_answer basintilt_event(struct basintilt_device *device, uint8_t
 
 /* What a block is at the place it should have, counted from 1. */
 uint32_t basintilt_block(const uint8_t *block, size_t block_length, uint32_t place);
+
+/* Who set a setting, given by its index and subindex: the earliest block from which on every block of the run holds the value in force.
+ * Refused with 1 for the journal's length and then with 6 for a pair that is no setting. The journal is only read, once from its first block on. */
+struct basintilt_finding basintilt_origin(const uint8_t *journal, size_t journal_length, uint16_t index, uint8_t subindex);
 
 #endif

@@ -21,7 +21,8 @@ enum reference_refusal {
     REFERENCE_BAD_FRAME = 2,
     REFERENCE_BAD_RECORD = 3,
     REFERENCE_BAD_NODE = 4,
-    REFERENCE_BAD_LINE = 5
+    REFERENCE_BAD_LINE = 5,
+    REFERENCE_NO_SETTING = 6
 };
 
 enum reference_nmt_state {
@@ -62,6 +63,12 @@ enum reference_block_answer {
     REFERENCE_BLOCK_GOOD = 0,
     REFERENCE_BLOCK_BLANK = 1,
     REFERENCE_BLOCK_NEITHER = 2
+};
+
+enum reference_block_kind {
+    REFERENCE_SAVE = 1,
+    REFERENCE_LOAD = 2,
+    REFERENCE_STORE = 3
 };
 
 struct reference_pdo_settings {
@@ -167,6 +174,15 @@ struct reference_answer {
     struct reference_sent frames[REFERENCE_FRAMES];
 };
 
+/* Block 0, with channel and kind 0, says factory; all but the refusal is 0 on a refusal. */
+struct reference_origin {
+    uint8_t refusal;
+    int32_t value;
+    uint32_t block;
+    uint8_t channel;
+    uint8_t kind;
+};
+
 void reference_power_on(struct reference_record *record, uint32_t node,
                         struct reference_identity identity,
                         const uint8_t *journal, size_t length,
@@ -176,5 +192,8 @@ void reference_event(struct reference_record *record, uint8_t *journal, size_t l
                      const struct reference_event *event, struct reference_answer *answer);
 
 uint8_t reference_block(const uint8_t *block, size_t length, uint32_t place);
+
+void reference_origin(const uint8_t *journal, size_t length, uint16_t index, uint8_t subindex,
+                      struct reference_origin *origin);
 
 #endif

@@ -1,4 +1,5 @@
 pub mod Happenings
 pub mod Lent
 pub mod Told
+pub mod Traced
 pub mod Acts

@@ -1,5 +1,6 @@
-// What the recorder's C firmware calls: power-on, one event on its lent device record, and the block query.
+// What the recorder's C firmware calls: power-on, one event on its lent device record, the block query and the origin query.
 mod lent;
+pub mod origin;
 
 use acts::Act;
 use answers::Answer;

@@ -37,7 +37,7 @@ fixed-read-only (Mapped a) = refl
 fixed-read-only Blocks = refl
 
 -- a setting stands at its numbers, so settings with the same numbers are one
-setting-at : (s : Setting) → objectAt (settingRow s .index) (settingRow s .subindex) ≡ At (Of s)
+pub setting-at : (s : Setting) → objectAt (settingRow s .index) (settingRow s .subindex) ≡ At (Of s)
 unfolding find
 setting-at Heartbeat = refl
 setting-at (Pdo First On) = refl
