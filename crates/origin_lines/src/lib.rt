@@ -1,0 +1,63 @@
+// The origin of a value as one line: `-1235 block 12 channel 1 save`, `0 factory`, or `R 1`, `R 6`.
+use libc::STDOUT_FILENO;
+use rules::journal;
+use rules::origins::Bringer;
+use rules::origins::Brought;
+ghost use mathlib.Core.Path.{_≡_};
+ghost use Prim.Native.Nat.{suc};
+ghost use lib.IntN.{ℤ, natAbs};
+
+// How far a number is from 0.
+fn size(value: i32) -> u64
+    ensures { λ r. ⌜ r ≡ natAbs value ⌝ }
+{
+    if value < 0 {
+        ((-1 - value) as u64) + 1
+    } else {
+        value as u64
+    }
+}
+
+pub fn print_number(value: i32) {
+    if value < 0 {
+        io::write_all(STDOUT_FILENO, b"-");
+    }
+    io::print_decimal(STDOUT_FILENO, size(value));
+}
+
+fn print_kind(kind: u8) {
+    match kind {
+        journal::SAVE => io::write_all(STDOUT_FILENO, b" save"),
+        journal::LOAD => io::write_all(STDOUT_FILENO, b" load"),
+        _ => io::write_all(STDOUT_FILENO, b" store"),
+    }
+    ;
+}
+
+// A good block has channel and kind 1 to 3.
+pub fn print_bringer(bringer: Bringer) {
+    io::write_all(STDOUT_FILENO, b"block ");
+    io::print_decimal(STDOUT_FILENO, bringer.number as u64);
+    io::write_all(STDOUT_FILENO, b" channel ");
+    io::print_decimal(STDOUT_FILENO, bringer.channel as u64);
+    print_kind(bringer.kind);
+}
+
+pub fn print_brought(brought: Brought) {
+    match brought {
+        Brought::ByBlock(value, bringer) => {
+            print_number(value);
+            io::write_all(STDOUT_FILENO, b" ");
+            print_bringer(bringer);
+        }
+        Brought::ByFactory(value) => {
+            print_number(value);
+            io::write_all(STDOUT_FILENO, b" factory");
+        }
+        Brought::Refused(number) => {
+            io::write_all(STDOUT_FILENO, b"R ");
+            io::print_decimal(STDOUT_FILENO, number as u64);
+        }
+    }
+    io::write_all(STDOUT_FILENO, b"\n");
+}
