@@ -6,4 +6,5 @@ pub mod Calls
 pub mod NothingMakesRoom
 pub mod Counted
 pub mod StoredNumber
+pub mod Origins
 pub mod ByTheRecord

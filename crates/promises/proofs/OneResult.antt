@@ -1,6 +1,6 @@
 -- Two results of one promise are what the rules say, both.
 use mathlib.Core.Path.{sym, _∙_}
-use Rattle.promises.specs.OneResult.{OnePowerOn, OneEvent, OneLentEvent, OneBlock}
+use Rattle.promises.specs.OneResult.{OnePowerOn, OneEvent, OneLentEvent, OneBlock, OneOrigin}
 
 pub one-power-on : OnePowerOn
 one-power-on node identity j r s p q = p ∙ sym q
@@ -13,3 +13,6 @@ one-lent-event d j h r s a b k l p q = (p .0 ∙ sym (q .0), p .1 ∙ sym (q .1)
 
 pub one-block : OneBlock
 one-block block place r s p q = p ∙ sym q
+
+pub one-origin : OneOrigin
+one-origin j index subindex r s p q = p ∙ sym q

@@ -4,8 +4,10 @@ use mathlib.Core.List.{List}
 use Prim.Native.Nat.{ℕ}
 use Rattle.answers.specs.declared.Answer.{Answer}
 use Rattle.basintilt.specs.declared.Happening.{Happening}
+use Rattle.basintilt.specs.declared.origin.Finding.{Finding}
 use Rattle.basintilt.specs.Lent.{Lent}
 use Rattle.basintilt.specs.Told.{Told}
+use Rattle.basintilt.specs.Traced.{Traced}
 use Rattle.device.specs.declared.Device.{Device}
 use Rattle.device.specs.declared.Stepped.{Stepped}
 use Rattle.device.specs.Promise.{Answered, PoweredOn}
@@ -31,3 +33,7 @@ OneLentEvent =
 -- `basintilt_block`
 abbrev pub OneBlock : Type 0
 OneBlock = (block : List ℕ) (place : ℕ) (r s : ℕ) → Told block place r → Told block place s → r ≡ s
+
+-- `basintilt_origin`
+abbrev pub OneOrigin : Type 0
+OneOrigin = (j : List ℕ) (index subindex : ℕ) (r s : Finding) → Traced j index subindex r → Traced j index subindex s → r ≡ s

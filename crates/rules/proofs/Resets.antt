@@ -26,6 +26,11 @@ pub power-on-takes : (node : ℕ) (identity : Identity) (j : List ℕ) → nodeO
 unfolding powerOn start
 power-on-takes node identity j n l = rw (n, l)
 
+pub power-on-saves : (node : ℕ) (identity : Identity) (j : List ℕ) → nodeOk node ≡ true → lengthOk j ≡ true
+    → powerOn node identity j .state .saves .filled ≡ savesIn j .filled
+unfolding powerOn start
+power-on-saves node identity j n l = rw (n, l)
+
 -- "after a power-on the stored one holds"
 pub power-on-number : (node : ℕ) (identity : Identity) (j : List ℕ) → nodeOk node ≡ true → lengthOk j ≡ true
     → powerOn node identity j .state .node ≡ nodeElse (savesIn j .node) node
