@@ -1,4 +1,4 @@
-/* Each kind of event once, and power-on over blank and over full journals of 128 blocks. */
+/* Each kind of event once, power-on over blank and over full journals of 128 blocks, and the queries. */
 #include "cases.h"
 
 #define REQUEST(a, b, c, d, e, f, g, h) { BENCH_FRAME, 0x600 + BENCH_NODE, 8, { a, b, c, d, e, f, g, h }, 0 }
@@ -9,6 +9,7 @@
 #define READING(m) { BENCH_READING_X, 0, 0, { 0 }, m }
 #define POWER_ON { BENCH_POWER_ON, 0, 0, { 0 }, 0 }
 #define BLOCK { BENCH_BLOCK, 0, 0, { 0 }, 0 }
+#define ORIGIN(index, subindex) { BENCH_ORIGIN, index, subindex, { 0 }, 0 }
 
 #define START NETWORK(0x01)
 #define STOP NETWORK(0x02)
@@ -20,6 +21,8 @@ const struct bench_case bench_cases[] = {
     { "power-on, 128 blank blocks", 0, 0, { { 0 } }, POWER_ON },
     { "power-on, 128 filled blocks", 128, 0, { { 0 } }, POWER_ON },
     { "block query, a filled block", 1, 0, { { 0 } }, BLOCK },
+    { "origin, 128 filled blocks", 128, 0, { { 0 } }, ORIGIN(0x6013, 0) },
+    { "origin, a pair that is none", 128, 0, { { 0 } }, ORIGIN(0x1000, 0) },
     { "NMT start", 0, 0, { { 0 } }, START },
     { "NMT 81h", 0, 0, { { 0 } }, NETWORK(0x81) },
     { "NMT 82h", 0, 0, { { 0 } }, NETWORK(0x82) },

@@ -7,9 +7,10 @@
 
 enum { BENCH_BLOCKS = 128, BENCH_JOURNAL = 512 * BENCH_BLOCKS, BENCH_NODE = 1 };
 
-enum bench_kind { BENCH_FRAME, BENCH_TICK, BENCH_READING_X, BENCH_POWER_ON, BENCH_BLOCK };
+enum bench_kind { BENCH_FRAME, BENCH_TICK, BENCH_READING_X, BENCH_POWER_ON, BENCH_BLOCK, BENCH_ORIGIN };
 
-/* A step: a frame (identifier, length, bytes), a tick (number) or a reading of X (number); power-on and the block query go by the journal. */
+/* A step: a frame (identifier, length, bytes), a tick (number) or a reading of X (number); power-on and the queries go by the journal, and the
+ * origin query by an index (identifier) and a subindex (length) besides. */
 struct bench_step {
     enum bench_kind kind;
     uint32_t identifier;

@@ -6,6 +6,7 @@ static struct basintilt_device device;
 static struct basintilt_stepped started;
 static struct basintilt_answer answer;
 static uint32_t judged;
+static struct basintilt_finding finding;
 
 static const struct basintilt_identity nobody = { 0, 0, 0, 0 };
 
@@ -41,6 +42,10 @@ static void counted(uint8_t *journal, const struct bench_step *step) {
     } else if (step->kind == BENCH_BLOCK) {
         bench_begin();
         judged = basintilt_block(journal, 512, 1);
+        bench_end();
+    } else if (step->kind == BENCH_ORIGIN) {
+        bench_begin();
+        finding = basintilt_origin(journal, BENCH_JOURNAL, (uint16_t)step->identifier, step->length);
         bench_end();
     } else {
         bench_begin();

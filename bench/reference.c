@@ -5,6 +5,7 @@
 static struct reference_record record;
 static struct reference_answer answer;
 static uint8_t judged;
+static struct reference_origin origin;
 
 static const struct reference_identity nobody = { 0, 0, 0, 0 };
 
@@ -44,6 +45,10 @@ static void counted(uint8_t *journal, const struct bench_step *step) {
     } else if (step->kind == BENCH_BLOCK) {
         bench_begin();
         judged = reference_block(journal, 512, 1);
+        bench_end();
+    } else if (step->kind == BENCH_ORIGIN) {
+        bench_begin();
+        reference_origin(journal, BENCH_JOURNAL, (uint16_t)step->identifier, step->length, &origin);
         bench_end();
     } else {
         bench_begin();

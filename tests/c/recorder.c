@@ -1,13 +1,14 @@
-/* Runs the paper's sample input through the C interface, then gives the sensor a number by LSS: power-on, events, the lent record and the block query. */
+/* Runs the paper's sample input through the C interface; then the sensor gets a number by LSS and a zero, and is asked who set it. */
 #include "basintilt.h"
 
 int printf(const char *, ...);
 void *memset(void *, int, size_t);
+void *memcpy(void *, const void *, size_t);
 int memcmp(const void *, const void *, size_t);
 
 enum { NODE = 1, FIRST = BASINTILT_REQUEST_ONE_AT + NODE, SECOND = BASINTILT_REQUEST_TWO_AT + NODE, NEW_NODE = 0x29 };
 
-static uint8_t journal[2 * BASINTILT_BLOCK_BYTES];
+static uint8_t journal[3 * BASINTILT_BLOCK_BYTES];
 static struct basintilt_device device;
 static int failures;
 
@@ -87,6 +88,36 @@ static void gets_number(void)
     check(device.node == NEW_NODE && device.lss.node == 0 && device.saves.filled == 2, "power-on goes by the stored number");
 }
 
+/* Prints what is found of a setting, over so many bytes of the journal. */
+static void finds(size_t length, uint16_t index, uint8_t subindex)
+{
+    struct basintilt_finding finding = basintilt_origin(journal, length, index, subindex);
+    if (finding.refusal == BASINTILT_ACCEPTED) {
+        printf("%04X:%u is %d, block %u, channel %u, kind %u\n", index, subindex, (int)finding.value, (unsigned)finding.block,
+               (unsigned)finding.channel, (unsigned)finding.kind);
+    } else {
+        printf("R %u\n", (unsigned)finding.refusal);
+        check(all_zero(&finding.value, &finding + 1), "all else of a refused finding is 0");
+    }
+}
+
+/* A zero is set and saved under the new number; the blocks before it carry the factory's values. */
+static void asks_who_set_it(void)
+{
+    uint8_t before[sizeof journal];
+    happens((struct basintilt_happening){.kind = BASINTILT_READING_X, .m = 12345});
+    asks(BASINTILT_REQUEST_ONE_AT + NEW_NODE, 0x2B, 0x6012, 0, 0);
+    asks(BASINTILT_REQUEST_ONE_AT + NEW_NODE, 0x23, 0x1010, 1, BASINTILT_SAVE);
+    memcpy(before, journal, sizeof journal);
+    finds(sizeof journal, 0x6013, 0);
+    finds(sizeof journal, 0x6012, 0);
+    finds(sizeof journal, 0x1800, 1);
+    finds(2 * BASINTILT_BLOCK_BYTES, 0x6013, 0);
+    finds(sizeof journal - 1, 0x1000, 0);
+    finds(sizeof journal, 0x1000, 0);
+    check(memcmp(before, journal, sizeof journal) == 0, "the journal is only read");
+}
+
 static void is_refused(void)
 {
     struct basintilt_device lent = device;
@@ -112,6 +143,7 @@ int main(void)
     check(device.saves.filled == 1 && device.identity.serial == 4 && device.x.m == 12345, "the record is updated");
     happens((struct basintilt_happening){.kind = 99, .identifier = 0xFFFF, .length = 200});
     gets_number();
+    asks_who_set_it();
     device.x.state += 0x100; /* the low byte alone would be in range */
     is_refused();
     device.x.state -= 0x100;

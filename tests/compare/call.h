@@ -8,11 +8,13 @@ enum call_kind {
     POWER_ON,
     EVENT,
     BLOCK_QUERY,
+    ORIGIN_QUERY,
     JOURNAL_MADE,  /* the journal is replaced by a made one */
     BYTE_WRITTEN,  /* someone else writes one byte of the journal */
     RECORD_MADE,   /* the record is replaced by a made one */
     FIELD_WRITTEN, /* someone else writes one field of the record */
-    CALL_KINDS
+    CALL_KINDS,
+    LAST_OF_LIBRARY = ORIGIN_QUERY /* up to here it is a call of the library, and a length is said */
 };
 
 /* A call stands by itself, so that any call of a history can be left out. */
@@ -29,6 +31,10 @@ struct call {
             uint32_t at;
             uint32_t place;
         } query;
+        struct {
+            uint16_t index;
+            uint8_t subindex;
+        } asked; /* whose origin */
         struct {
             uint32_t shape;
             uint64_t seed;

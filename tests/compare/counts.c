@@ -125,6 +125,9 @@ void count_call(const struct pair *pair, const struct call *call)
         counts.queries[pair->block_answer % 3]++;
         count_block(pair, call);
     }
+    if (call->kind == ORIGIN_QUERY) {
+        count_origin(pair, call);
+    }
     if (call->kind != POWER_ON && call->kind != EVENT) {
         return;
     }

@@ -5,6 +5,7 @@
 #include "journals.h"
 #include "lss.h"
 #include "objects.h"
+#include "origins.h"
 #include "pair.h"
 
 enum { CHANNELS = BASINTILT_CHANNELS, REFUSALS = 5, EVENT_KINDS = 6, ABORTS = 13, REPLIES = 8, LENGTH_CLASSES = 4 };
@@ -81,6 +82,42 @@ enum { NUMBER_SOURCES = 2 };
 /* Bytes of a block: the channel, the kind, the stored number, and the zeros behind it up to the check; channels and kinds are 1 to 3. */
 enum { CHANNEL_AT = 4, KIND_AT = 5, NUMBER_AT = 28, ZEROS_AT = 29, CHECK_AT = 510, BLOCK_CHANNELS = 3, BLOCK_KINDS = 3 };
 
+/* Which block of the run brought a setting's value, and what it was before. */
+enum {
+    NO_BLOCK,
+    ONLY_BLOCK,
+    FIRST_BLOCK,
+    MIDDLE_BLOCK,
+    LAST_BLOCK,
+    CAME_AGAIN,       /* the value was there before, and went */
+    NEVER_THE_SAME,   /* every block of the run changed it */
+    FACTORY_BY_BLOCK, /* a block brought the value that the factory has, and it is no load */
+    FACTORY_BY_LOAD,
+    BRINGINGS
+};
+
+/* The journal that was asked: what stands in it, and what stands behind its run. */
+enum {
+    ASKED_BLANK,
+    ASKED_WITH_ROOM,
+    ASKED_FULL,
+    ASKED_FULL_OF_MOST,
+    ASKED_SPOILED_AT_ONCE, /* no block is filled */
+    ASKED_SPOILED,
+    OTHER_VALUE_NEXT,   /* in the block behind the run, which is neither good nor blank */
+    OTHER_VALUE_BEHIND, /* in a good block behind that one, or behind a blank one */
+    ASKED_JOURNALS
+};
+
+/* Values of two bytes: the highest bit is a sign or is none, and one byte alone tells a value from another. */
+enum { HIGHEST_BIT, LOW_BYTE_ALONE, HIGH_BYTE_ALONE, CHANGED_LOW_BYTE, CHANGED_HIGH_BYTE, EXCHANGED_BYTES, VALUE_KINDS };
+
+/* Lengths that are refused, of a journal asked for a setting and for a pair that is none. */
+enum { LENGTH_ZERO, BELOW_A_BLOCK, BETWEEN_BLOCKS, TOO_MANY_BLOCKS, BETWEEN_TOO_MANY, WRONG_LENGTHS };
+
+/* Pairs that are no setting: another object, another subindex of a setting's index, or no object at all. */
+enum { OTHER_OBJECT, OTHER_SUBINDEX, NO_OBJECT, NO_SETTINGS };
+
 struct counts {
     uint64_t calls[CALL_KINDS];
     uint64_t events[EVENT_KINDS];
@@ -116,6 +153,12 @@ struct counts {
     uint64_t roundings[ANGLE_USES * AXES * RESOLUTIONS * SIGNS * PLACES];
     uint64_t sums_at_halves[AXES * SIGNS];
     uint64_t zeros_by_rounding[AXES * 2];
+    uint64_t bringings[SETTING_PAIRS * BRINGINGS];
+    uint64_t bringers[SETTING_PAIRS * BLOCK_CHANNELS * BLOCK_KINDS];
+    uint64_t journals_asked[SETTING_PAIRS * ASKED_JOURNALS];
+    uint64_t values_found[SETTING_PAIRS * VALUE_KINDS];
+    uint64_t wrong_lengths[2 * WRONG_LENGTHS];
+    uint64_t no_settings[NO_SETTINGS];
 };
 
 extern struct counts counts;
@@ -136,6 +179,9 @@ void count_lss(const struct pair *pair, const struct call *call);
 /* What a frame of an answer says of an angle. */
 void count_angles(const struct pair *pair, const struct call *call, const struct basintilt_frame *frame);
 
+/* What was found of a setting's origin, and in which journal. */
+void count_origin(const struct pair *pair, const struct call *call);
+
 /* The channel, the kind and the number of a block that was asked about. */
 void count_block(const struct pair *pair, const struct call *call);
 
@@ -143,5 +189,6 @@ void count_block(const struct pair *pair, const struct call *call);
 bool show_counts(void);
 bool show_lss_counts(void);
 bool show_angle_counts(void);
+bool show_origin_counts(void);
 
 #endif

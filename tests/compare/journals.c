@@ -1,12 +1,13 @@
 /* Journals that are made: blank, good, full, half-written, spoiled, bit-flipped and more. */
 #include "journals.h"
 
+#include "origins.h"
 #include "settings.h"
 
 #include <string.h>
 
 const char *const shape_names[JOURNAL_SHAPES] = {
-    "blank", "good", "full", "half-written", "spoiled", "bit-flipped", "field out of range", "zeroed", "numbered", "noise",
+    "blank", "good", "carrying", "full", "half-written", "spoiled", "bit-flipped", "field out of range", "zeroed", "numbered", "noise",
 };
 
 enum { BLOCK = BASINTILT_BLOCK_BYTES, CHECK_AT = 510 };
@@ -54,6 +55,19 @@ void make_block(struct chance *chance, uint8_t *block, uint32_t place)
     put_angles(block + 16, &settings.x);
     put_angles(block + 22, &settings.y);
     block[28] = any_stored_node(chance);
+    seal_block(block);
+}
+
+/* At most two settings of the block are its own, all others those of the block before. */
+static void carry_on(struct chance *chance, uint8_t *block)
+{
+    uint32_t own = below(chance, SETTING_PAIRS);
+    uint32_t other = below(chance, SETTING_PAIRS);
+    for (uint32_t i = 0; i < SETTING_PAIRS; i++) {
+        if (i != own && i != other) {
+            memcpy(block + setting_pairs[i].at, block - BLOCK + setting_pairs[i].at, setting_pairs[i].bytes);
+        }
+    }
     seal_block(block);
 }
 
@@ -147,6 +161,9 @@ void make_journal(uint8_t *journal, uint32_t length, enum journal_shape shape, u
     memset(journal, 0xFF, length);
     for (uint32_t i = 0; i < run; i++) {
         make_block(&chance, journal + (size_t)BLOCK * i, i + 1);
+        if (shape == CARRYING_JOURNAL && i > 0) {
+            carry_on(&chance, journal + (size_t)BLOCK * i);
+        }
     }
     if (run < blocks) {
         spoil(&chance, journal, blocks, run, shape);

@@ -8,6 +8,7 @@
 enum journal_shape {
     BLANK_JOURNAL,
     GOOD_JOURNAL,        /* a run of good blocks, then blank ones */
+    CARRYING_JOURNAL,    /* the same, and most values are those of the block before */
     FULL_JOURNAL,
     HALF_WRITTEN,        /* the block behind the run stops short of its end */
     SPOILED_JOURNAL,     /* something stands behind the first blank block */

@@ -2,6 +2,7 @@
  * With a stride the longest rows of built cases are thinned out: one case in so many is made. */
 #include "built.h"
 #include "counts.h"
+#include "findings.h"
 #include "history.h"
 #include "wander.h"
 
@@ -9,7 +10,8 @@
 #include <stdlib.h>
 #include <string.h>
 
-enum { MOST_CALLS_OF_A_FAULT = 4 };
+/* A store by LSS takes more: power-on, Stopped, four matches, the store. */
+enum { MOST_CALLS_OF_A_FAULT = 4, MOST_CALLS_OF_A_STORE = 7 };
 
 static void show_difference(uint64_t seed)
 {
@@ -55,6 +57,8 @@ static bool sees_fault(enum fault fault)
         [WRONG_RECORD_BYTE] = "the reference says another byte of the record",
         [WRONG_JOURNAL_BYTE] = "the reference writes another byte of the journal",
         [WRONG_STORED_NUMBER] = "the reference stores another node number",
+        [WRONG_FINDING_BYTE] = "the reference says another byte of a finding",
+        [VALUE_BESIDE_REFUSAL] = "the reference says a value beside the refusal of an origin query",
         [REFUSED_BUT_CHANGED] = "both sensors change a record that they refuse",
     };
     printf("wrong on purpose: %s: ", names[fault]);
@@ -63,21 +67,26 @@ static bool sees_fault(enum fault fault)
         return false;
     }
     show_difference(0);
-    return history.count <= MOST_CALLS_OF_A_FAULT;
+    return history.count <= (fault == WRONG_STORED_NUMBER ? MOST_CALLS_OF_A_STORE : MOST_CALLS_OF_A_FAULT);
 }
 
-/* Each byte of the record is made wrong by itself, and must be seen as its field's. */
-static bool sees_every_byte(void)
+static const char *record_field(unsigned byte)
+{
+    return field_at(byte)->name;
+}
+
+/* Each byte of the record or of a finding is made wrong by itself, and must be seen as its field's. */
+static bool sees_every_byte(enum fault fault, const char *whole, unsigned bytes, const char *(*field)(unsigned byte))
 {
     bool all = true;
-    for (pair.wrong_byte = 0; pair.wrong_byte < sizeof pair.device; pair.wrong_byte++) {
-        const char *name = field_at(pair.wrong_byte)->name;
-        if (!is_seen(WRONG_RECORD_BYTE) || history.difference.what != name) {
-            printf("FAILED: not seen: byte %u of the record, in %s\n", pair.wrong_byte, name);
+    for (pair.wrong_byte = 0; pair.wrong_byte < bytes; pair.wrong_byte++) {
+        const char *name = field(pair.wrong_byte);
+        if (!is_seen(fault) || history.difference.what != name) {
+            printf("FAILED: not seen: byte %u of the %s, in %s\n", pair.wrong_byte, whole, name);
             all = false;
         }
     }
-    printf("wrong on purpose: each of the %u bytes of the record by itself\n", (unsigned)sizeof pair.device);
+    printf("wrong on purpose: each of the %u bytes of the %s by itself\n", bytes, whole);
     return all;
 }
 
@@ -87,7 +96,8 @@ static bool sees_all_faults(void)
     for (unsigned fault = NO_FAULT + 1; fault < FAULTS; fault++) {
         all = sees_fault((enum fault)fault) && all;
     }
-    all = sees_every_byte() && all;
+    all = sees_every_byte(WRONG_RECORD_BYTE, "record", sizeof pair.device, record_field) && all;
+    all = sees_every_byte(WRONG_FINDING_BYTE, "finding", sizeof pair.finding, finding_field) && all;
     printf(all ? "each difference made on purpose was seen and shrunk\n" : "FAILED: one was not seen, or its history stayed long\n");
     return all;
 }

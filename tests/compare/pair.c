@@ -1,6 +1,7 @@
 /* Both sensors side by side: a call is made to each, and all that they hold then is compared. */
 #include "pair.h"
 
+#include "findings.h"
 #include "journals.h"
 #include "lss.h"
 #include "records.h"
@@ -84,7 +85,8 @@ static void make_wrong(struct pair *pair)
 {
     struct basintilt_frame *frame = &pair->expected_answer.frames[0];
     uint32_t end = BASINTILT_BLOCK_BYTES * (uint32_t)pair->record.saves.filled; /* of the block that was filled */
-    bool reads_y = frame->bytes[0] == 0x4B && frame->bytes[1] == 0x20 && frame->bytes[2] == 0x60;
+    bool reads = frame->length == 8 && frame->bytes[0] == 0x4B;
+    bool reads_y = reads && frame->bytes[1] == 0x20 && frame->bytes[2] == 0x60;
     bool saves = frame->bytes[0] == 0x60 && frame->bytes[1] == 0x10 && frame->bytes[2] == 0x10;
     bool stores = frame->identifier == BASINTILT_LSS_REPLY_AT && frame->bytes[0] == STORES && frame->bytes[1] == 0;
     if (pair->fault == WRONG_FRAME_BYTE && reads_y) {
@@ -96,7 +98,7 @@ static void make_wrong(struct pair *pair)
     if (pair->fault == WRONG_BYTE_PAST_COUNT && reads_y) {
         pair->expected_answer.frames[1].bytes[7] ^= 1;
     }
-    if (pair->fault == WRONG_RECORD_BYTE && reads_y) {
+    if (pair->fault == WRONG_RECORD_BYTE && reads) {
         ((uint8_t *)&pair->expected_device)[pair->wrong_byte] ^= 1;
     }
     if (pair->fault == WRONG_JOURNAL_BYTE && saves) {
@@ -131,6 +133,27 @@ static void query(struct pair *pair, const struct call *call)
     pair->reference_block_answer = reference_block(pair->reference_journal + call->query.at, call->length, call->query.place);
 }
 
+static void make_finding_wrong(struct pair *pair)
+{
+    struct basintilt_finding *finding = &pair->expected_finding;
+    if (pair->fault == WRONG_FINDING_BYTE && finding->block != 0) {
+        ((uint8_t *)finding)[pair->wrong_byte] ^= 1;
+    }
+    if (pair->fault == VALUE_BESIDE_REFUSAL && finding->refusal != BASINTILT_ACCEPTED) {
+        finding->value ^= 1;
+    }
+}
+
+/* Each asks its own journal, whatever stands there. */
+static void origin(struct pair *pair, const struct call *call)
+{
+    struct reference_origin said;
+    pair->finding = basintilt_origin(pair->journal, call->length, call->asked.index, call->asked.subindex);
+    reference_origin(pair->reference_journal, call->length, call->asked.index, call->asked.subindex, &said);
+    pair->expected_finding = finding_of(&said);
+    make_finding_wrong(pair);
+}
+
 /* Both sensors get the record that the library has now. */
 static void share_record(struct pair *pair)
 {
@@ -149,6 +172,9 @@ static void do_call(struct pair *pair, const struct call *call)
         break;
     case BLOCK_QUERY:
         query(pair, call);
+        break;
+    case ORIGIN_QUERY:
+        origin(pair, call);
         break;
     case JOURNAL_MADE:
         make_journal(pair->journal, call->length, (enum journal_shape)call->made.shape, call->made.seed);
@@ -245,6 +271,16 @@ static struct difference compare_queries(const struct pair *pair)
     return (struct difference){"answer to the block query", -1, pair->block_answer, pair->reference_block_answer};
 }
 
+static struct difference compare_findings(const struct basintilt_finding *finding, const struct basintilt_finding *same)
+{
+    unsigned at;
+    if (memcmp(finding, same, sizeof *finding) == 0) {
+        return (struct difference){0};
+    }
+    at = first_difference(finding, same);
+    return (struct difference){finding_field(at), -1, finding_number(finding, at), finding_number(same, at)};
+}
+
 struct difference perform(struct pair *pair, const struct call *call)
 {
     uint32_t end = call->kind == BYTE_WRITTEN ? call->written.at + 1 : call->length;
@@ -256,6 +292,7 @@ struct difference perform(struct pair *pair, const struct call *call)
         compare_records(&pair->device, &pair->expected_device),
         compare_refused(pair, call),
         compare_queries(pair),
+        compare_findings(&pair->finding, &pair->expected_finding),
         compare_journals(pair),
     };
     for (unsigned i = 0; i < sizeof differences / sizeof differences[0]; i++) {

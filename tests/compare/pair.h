@@ -30,13 +30,15 @@ enum fault {
     WRONG_RECORD_BYTE,
     WRONG_JOURNAL_BYTE,
     WRONG_STORED_NUMBER,    /* in the block that a store by LSS fills */
+    WRONG_FINDING_BYTE,     /* where a block brought the value */
+    VALUE_BESIDE_REFUSAL,   /* of an origin query */
     REFUSED_BUT_CHANGED,    /* the record, and in both sensors alike */
     FAULTS
 };
 
 struct pair {
     enum fault fault;
-    unsigned wrong_byte; /* of the record */
+    unsigned wrong_byte; /* of the record or of the finding */
     bool too_wide; /* the reference has no such record, since a number is too wide for its field there */
     struct basintilt_device lent; /* the record as it was before the call */
     struct basintilt_device device;
@@ -46,6 +48,8 @@ struct pair {
     struct basintilt_answer expected_answer;
     uint32_t block_answer;
     uint32_t reference_block_answer;
+    struct basintilt_finding finding; /* of the last origin query */
+    struct basintilt_finding expected_finding;
     uint32_t used; /* the longest journal so far; behind it nothing was ever written */
     uint8_t journal[LONGEST_SAID + GUARD];
     uint8_t reference_journal[LONGEST_SAID + GUARD];

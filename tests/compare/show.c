@@ -78,6 +78,9 @@ static void show_call(const struct call *call)
     case BLOCK_QUERY:
         printf("block query at byte %" PRIu32 ", place %" PRIu32, call->query.at, call->query.place);
         break;
+    case ORIGIN_QUERY:
+        printf("origin query of %04X:%u", call->asked.index, call->asked.subindex);
+        break;
     case JOURNAL_MADE:
         show_made_journal(call);
         break;
@@ -91,7 +94,7 @@ static void show_call(const struct call *call)
         printf("field %s becomes %08" PRIX32 "h", fields[call->written.at].name, call->written.number);
         break;
     }
-    if (call->kind == POWER_ON || call->kind == EVENT || call->kind == BLOCK_QUERY) {
+    if (call->kind <= LAST_OF_LIBRARY) {
         printf(", over %" PRIu32 " bytes", call->length);
     }
 }

@@ -9,7 +9,7 @@
 static void show_call(unsigned which)
 {
     static const char *const names[CALL_KINDS] = {
-        "power-on", "event", "block query", "journal made", "byte written", "record made", "field written",
+        "power-on", "event", "block query", "origin query", "journal made", "byte written", "record made", "field written",
     };
     printf("%s", names[which]);
 }
@@ -133,5 +133,6 @@ bool show_counts(void)
     };
     bool all = show_tallies(tallies, sizeof tallies / sizeof tallies[0]);
     all = show_lss_counts() && all;
-    return show_angle_counts() && all;
+    all = show_angle_counts() && all;
+    return show_origin_counts() && all;
 }

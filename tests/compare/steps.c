@@ -2,6 +2,7 @@
 #include "steps.h"
 
 #include "happenings.h"
+#include "lss.h"
 #include "requests.h"
 
 #include <string.h>
@@ -24,6 +25,11 @@ bool make_shape(enum journal_shape shape, uint32_t length, uint64_t seed)
 bool ask(uint32_t at, uint32_t length, uint32_t place)
 {
     return make_call((struct call){.kind = BLOCK_QUERY, .length = length, .query = {at, place}});
+}
+
+bool ask_origin(uint32_t length, uint32_t index, uint32_t subindex)
+{
+    return make_call((struct call){.kind = ORIGIN_QUERY, .length = length, .asked = {(uint16_t)index, (uint8_t)subindex}});
 }
 
 bool write_byte(uint32_t at, uint32_t number)
@@ -66,4 +72,9 @@ bool save(void)
 bool load(void)
 {
     return serve(1, 0x23, 0x1011, 1, BASINTILT_LOAD);
+}
+
+bool store(void)
+{
+    return order(0x02) && make_event(lss_request(SWITCHES, BASINTILT_CONFIGURATION)) && make_event(lss_request(STORES, 0)) && order(0x80);
 }

@@ -11,6 +11,7 @@ bool power_on_as(uint32_t node, uint32_t length);
 bool power_on_over(uint32_t length);
 bool make_shape(enum journal_shape shape, uint32_t length, uint64_t seed);
 bool ask(uint32_t at, uint32_t length, uint32_t place);
+bool ask_origin(uint32_t length, uint32_t index, uint32_t subindex);
 bool write_byte(uint32_t at, uint32_t number);
 
 /* Writes one byte of a block and makes its check right again. */
@@ -23,8 +24,9 @@ bool fresh_sensor(void);
 bool order(uint32_t command);
 bool serve(unsigned channel, uint8_t first, uint32_t index, uint32_t subindex, uint32_t value);
 
-/* A save by channel 1, a load by channel 2. */
+/* A save by channel 1, a load by channel 2; a store by LSS, behind which the sensor is Pre-Operational. */
 bool save(void);
 bool load(void);
+bool store(void);
 
 #endif

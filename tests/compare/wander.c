@@ -4,6 +4,7 @@
 #include "happenings.h"
 #include "history.h"
 #include "journals.h"
+#include "origins.h"
 #include "records.h"
 
 #include <string.h>
@@ -39,7 +40,7 @@ static bool make_power_on(struct chance *chance, uint32_t length)
 static bool make_any_journal(struct chance *chance, uint32_t length)
 {
     struct call call = {.kind = JOURNAL_MADE, .length = length};
-    call.made.shape = one_in(chance, 2) ? PICK(chance, BLANK_JOURNAL, GOOD_JOURNAL) : below(chance, JOURNAL_SHAPES);
+    call.made.shape = one_in(chance, 2) ? PICK(chance, BLANK_JOURNAL, BLANK_JOURNAL, GOOD_JOURNAL, CARRYING_JOURNAL) : below(chance, JOURNAL_SHAPES);
     call.made.seed = any64(chance);
     return make_call(call);
 }
@@ -85,6 +86,15 @@ static bool ask_any_block(struct chance *chance, uint32_t length)
     return make_call(call);
 }
 
+static bool ask_any_origin(struct chance *chance, uint32_t length)
+{
+    struct call call = any_origin_query(chance, length);
+    if (one_in(chance, 10)) {
+        call.length = any_length(chance);
+    }
+    return make_call(call);
+}
+
 static bool make_any_event(struct chance *chance, enum leaning leaning)
 {
     struct call call = {.kind = EVENT};
@@ -118,7 +128,10 @@ static bool make_any_call(struct chance *chance, uint32_t length, enum leaning l
     if (turn < 17) {
         return write_any_byte(chance, length);
     }
-    return turn < 23 ? ask_any_block(chance, length) : make_any_event(chance, leaning);
+    if (turn < 23) {
+        return ask_any_block(chance, length);
+    }
+    return turn < 35 ? ask_any_origin(chance, length) : make_any_event(chance, leaning);
 }
 
 bool wander(uint64_t seed)

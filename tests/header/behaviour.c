@@ -322,6 +322,50 @@ static void node_number(void)
     IS(device.node, BASINTILT_MOST_NODE);
 }
 
+/* Who set the resolution; the block's number is the last filled one's. */
+static void brought_by(uint32_t value, uint32_t channel, uint32_t kind)
+{
+    struct basintilt_finding finding = basintilt_origin(journal, journal_length, 0x6000, 0);
+    IS(finding.refusal, BASINTILT_ACCEPTED);
+    IS(finding.value, value);
+    IS(finding.block, device.saves.filled);
+    IS(finding.channel, channel);
+    IS(finding.kind, kind);
+}
+
+/* A save and a load by a channel, each of which brings another value. */
+static void origins(int channel)
+{
+    start_blank();
+    brought_by(10, 0, 0);
+    IS(request(channel, 0x22, 0x6000, 0, 1000), WRITTEN);
+    IS(request(channel, 0x23, 0x1010, 1, BASINTILT_SAVE), WRITTEN);
+    brought_by(1000, channel + 1, BASINTILT_BLOCK_SAVE);
+    IS(request(channel, 0x23, 0x1011, 1, BASINTILT_LOAD), WRITTEN);
+    brought_by(10, channel + 1, BASINTILT_BLOCK_LOAD);
+}
+
+/* A store brings all that it has where it is the first block. */
+static void origin_of_store(void)
+{
+    start_blank();
+    network(BASINTILT_FRAME, 0x02);
+    IS(lss(SWITCHES, BASINTILT_CONFIGURATION), 0);
+    lss_tells(STORES, 0, 0);
+    brought_by(10, BASINTILT_BLOCK_LSS_CHANNEL, BASINTILT_BLOCK_STORE);
+}
+
+static void refusals_of_origins(void)
+{
+    const size_t most = BASINTILT_MOST_BLOCKS * BASINTILT_BLOCK_BYTES;
+    start_blank();
+    IS(basintilt_origin(journal, journal_length, 0x1000, 0).refusal, BASINTILT_NO_SETTING);
+    IS(basintilt_origin(journal, journal_length, 0x6000, 1).refusal, BASINTILT_NO_SETTING);
+    IS(basintilt_origin(journal, BASINTILT_BLOCK_BYTES - 1, 0x1000, 0).refusal, BASINTILT_WRONG_LENGTH);
+    IS(basintilt_origin(journal, most, 0x6000, 0).refusal, BASINTILT_ACCEPTED);
+    IS(basintilt_origin(journal, most + BASINTILT_BLOCK_BYTES, 0x6000, 0).refusal, BASINTILT_WRONG_LENGTH);
+}
+
 int main(void)
 {
     refusals_of_power_on();
@@ -336,9 +380,12 @@ int main(void)
         transfer(channel);
         aborts(channel);
         saves(channel);
+        origins(channel);
     }
     selection();
     node_number();
+    origin_of_store();
+    refusals_of_origins();
     start_blank();
     ends_at(0x1017, 0, BASINTILT_LEAST_PERIOD, BASINTILT_LEAST_PERIOD - 1);
     ends_at(0x1800, 2, BASINTILT_MOST_SYNCHRONOUS, BASINTILT_MOST_SYNCHRONOUS + 1);

@@ -7,7 +7,7 @@
 enum { STACK_BYTES = 32768, PAINT = 0xA5, BLOCKS_TRIED = 3, BLOCKS_PROBED = 4096 };
 
 /* What docs/INTEGRATION.md says is enough. */
-enum { ENOUGH_FOR_POWER_ON = 2048, ENOUGH_FOR_EVENT = 2048, ENOUGH_FOR_QUERY = 256 };
+enum { ENOUGH_FOR_POWER_ON = 2048, ENOUGH_FOR_EVENT = 2048, ENOUGH_FOR_QUERY = 256, ENOUGH_FOR_ORIGIN = 2048 };
 
 /* crates/stack_probe: the filled blocks, and 65,536 more where the journal is spoiled. */
 uint32_t stack_probe(const uint8_t *journal, size_t journal_length);
@@ -19,6 +19,9 @@ static struct basintilt_device device;
 static struct basintilt_stepped stepped;
 static struct basintilt_answer answer;
 static struct basintilt_happening happening;
+static struct basintilt_finding finding;
+static uint16_t asked_index;
+static uint8_t asked_subindex;
 static volatile uint32_t judged;
 static volatile uint32_t probed;
 
@@ -35,6 +38,11 @@ static void event(void)
 static void block(void)
 {
     judged = basintilt_block(journal, BASINTILT_BLOCK_BYTES, 1);
+}
+
+static void origin(void)
+{
+    finding = basintilt_origin(journal, journal_length, asked_index, asked_subindex);
 }
 
 static void probe(void)
@@ -87,6 +95,19 @@ static void fill(uint16_t filled)
     happening = (struct basintilt_happening){.identifier = 0x601, .length = 8, .bytes = {0x23, 0x10, 0x10, 1, 's', 'a', 'v', 'e'}};
     for (uint16_t i = 0; i < filled; i++)
         event();
+}
+
+/* A journal full of good blocks that change the heartbeat's period by turns: saves of 100 ms and loads. */
+static void fill_by_turns(uint16_t filled)
+{
+    fill(0);
+    happening = (struct basintilt_happening){.identifier = 0x601, .length = 8, .bytes = {0x2B, 0x17, 0x10, 0, 100}};
+    event();
+    for (uint16_t i = 0; i < filled; i++) {
+        happening.bytes[0] = 0x23;
+        memcpy(happening.bytes + 1, i % 2 ? "\x11\x10\x01load" : "\x10\x10\x01save", 7);
+        event();
+    }
 }
 
 /* Every first byte of a request on every object, in Operational, with both axes good. */
@@ -146,6 +167,19 @@ static size_t lss_requests(void)
     return most;
 }
 
+/* Every setting, subindices beside, and an index that has none. */
+static size_t origins(void)
+{
+    static const uint16_t indices[] = {0x1017, 0x1800, 0x6000, 0x6011, 0x6012, 0x6013, 0x6014, 0x6021, 0x6022, 0x6023, 0x6024, 0x7000};
+    size_t most = 0;
+    for (size_t i = 0; i < sizeof indices / sizeof *indices; i++) {
+        asked_index = indices[i];
+        for (asked_subindex = 0; asked_subindex < 6; asked_subindex++)
+            note(&most, depth(origin));
+    }
+    return most;
+}
+
 static int over(const char *what, unsigned blocks, size_t bytes, size_t enough)
 {
     printf("%s, %u blocks: %u bytes of stack%s\n", what, blocks, (unsigned)bytes, bytes > enough ? ", TOO MANY" : "");
@@ -172,8 +206,12 @@ int main(void)
         journal_length = (size_t)blocks[i] * BASINTILT_BLOCK_BYTES;
         fill(0);
         failures += over("power-on, all blank", blocks[i], depth(power_on), ENOUGH_FOR_POWER_ON);
+        failures += over("origin query, all blank", blocks[i], origins(), ENOUGH_FOR_ORIGIN);
         fill(blocks[i]);
         failures += over("power-on, all good", blocks[i], depth(power_on), ENOUGH_FOR_POWER_ON);
+        failures += over("origin query, all good", blocks[i], origins(), ENOUGH_FOR_ORIGIN);
+        fill_by_turns(blocks[i]);
+        failures += over("origin query, all good and changed", blocks[i], origins(), ENOUGH_FOR_ORIGIN);
         fill(0);
         size_t most = others();
         note(&most, requests());

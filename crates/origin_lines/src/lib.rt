@@ -4,8 +4,7 @@ use rules::journal;
 use rules::origins::Bringer;
 use rules::origins::Brought;
 ghost use mathlib.Core.Path.{_≡_};
-ghost use Prim.Native.Nat.{suc};
-ghost use lib.IntN.{ℤ, natAbs};
+ghost use lib.IntN.{natAbs};
 
 // How far a number is from 0.
 fn size(value: i32) -> u64
