@@ -1,4 +1,4 @@
-// The object table: which object an index and a subindex name.
+// The object table: which object an index and a subindex name, and so a request.
 use rules::objects::Axis;
 use rules::objects::Channel;
 use rules::objects::Fixed;
@@ -9,6 +9,7 @@ use rules::objects::PdoSetting;
 use rules::objects::Setting;
 ghost use mathlib.Core.Path.{_≡_};
 ghost use Rattle.rules.specs.Objects.{onPdo, objectAt};
+ghost use Rattle.rules.specs.Requests.{indexOf, subindexOf};
 ghost use Rattle.objects.specs.Rows.{onlyAt, serverAt};
 
 // An index with the one subindex 0.
@@ -146,4 +147,11 @@ pub fn object_at(index: u16, subindex: u8) -> Found
         _ => return Found::NoObject,
     };
     only(subindex, o)
+}
+
+// The object that a request names by its bytes 1 to 3.
+pub fn named_by(request: [u8; 8]) -> Found
+    ensures { λ r. ⌜ r ≡ objectAt (indexOf request) (subindexOf request) ⌝ }
+{
+    object_at(requests::index(request), requests::subindex(request))
 }

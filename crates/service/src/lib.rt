@@ -115,18 +115,11 @@ fn write_outcome(request: [u8; 8], written: Written) -> Outcome
     }
 }
 
-// The object that a request names.
-fn find(request: [u8; 8]) -> Found
-    ensures { λ r. ⌜ r ≡ objectAt (Requests.indexOf request) (Requests.subindexOf request) ⌝ }
-{
-    objects::object_at(requests::index(request), requests::subindex(request))
-}
-
 fn read(request: [u8; 8], v: View) -> Outcome
     requires { ⌜ Sound v ⌝ }
     ensures { λ r. ⌜ ((c : Channel) → r ≡ onCommand c request Read (objectAt (Requests.indexOf request) (Requests.subindexOf request)) (viewed v)) ⌝ }
 {
-    let found = find(request);
+    let found = objects::named_by(request);
     let Found::At(o) = found else {
         return refuse(request, missing_code(found));
     };
@@ -138,7 +131,7 @@ fn write(channel: Channel, request: [u8; 8], given: u8, v: View) -> Outcome
     requires { ⌜ Sound v ⌝ }
     ensures { λ r. ⌜ r ≡ onCommand channel request (Write given) (objectAt (Requests.indexOf request) (Requests.subindexOf request)) (viewed v) ⌝ }
 {
-    let found = find(request);
+    let found = objects::named_by(request);
     let Found::At(o) = found else {
         return refuse(request, missing_code(found));
     };

@@ -17,7 +17,7 @@ read-spec =
     (λ c κs. search needs)
     (λ c κs. search needs)
     (λ c.
-    let f = c .before .before .before .find in
+    let f = c .before .before .before .named-by in
     let a = c .before .before .before .before .args in
     λ channel. simp (c .refuse .ensures, c .before .missing-code .ensures, sym (f .ensures))
     (refused (a .request) (λ t. onCommand channel (a .request) Read t (viewed (a .v))) refl refl (f .result) (c .before .before .match .keys2)))
@@ -25,4 +25,4 @@ read-spec =
     (λ c κs. search needs)
     (λ c.
     let at = c .before .before .before in
-    λ channel. simp (c .read-outcome .ensures, c .before .read .ensures, sym (at .before .before .find .ensures) ∙ at .found .given .1)))
+    λ channel. simp (c .read-outcome .ensures, c .before .read .ensures, sym (at .before .before .named-by .ensures) ∙ at .found .given .1)))

@@ -21,7 +21,7 @@ write-spec =
     (λ c κs. search needs)
     (λ c κs. search needs)
     (λ c.
-    let f = c .before .before .before .find in
+    let f = c .before .before .before .named-by in
     let a = c .before .before .before .before .args in
     simp (c .refuse .ensures, c .before .missing-code .ensures, sym (f .ensures))
     (refused (a .request) (λ t. onCommand (a .channel) (a .request) (Write (a .given)) t (viewed (a .v))) refl refl (f .result) (c .before .before .match .keys2)))
@@ -36,6 +36,6 @@ write-spec =
     let o = at .found .given .0 .0 in
     let a = at .before .before .before .args in
     let value = valueFor o (a .request) in
-    simp (sym (at .before .before .find .ensures) ∙ at .found .given .1)
+    simp (sym (at .before .before .named-by .ensures) ∙ at .found .given .1)
     (simp (c .write-outcome .ensures, c .before .write .ensures, c .before .before .value .ensures, c .before .before .before .size .ensures)
     (judged (a .request) (writeCheck (a .given) o value (viewed (a .v))) (change (a .channel) o value (viewed (a .v)))))))
