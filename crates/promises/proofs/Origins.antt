@@ -24,7 +24,7 @@ use Rattle.rules.specs.Acknowledged.{savesAcknowledged, loadsAcknowledged, stor
 use Rattle.rules.specs.Brings.{Brings}
 use Rattle.rules.specs.Frames.{requestsAt}
 use Rattle.rules.specs.Journal.{lengthOk}
-use Rattle.rules.specs.Origins.{valueIn, bringerTold}
+use Rattle.rules.specs.Origins.{valueIn, valueTold, bringerTold}
 use Rattle.rules.specs.PowerOn.{savesIn, powerOn}
 use Rattle.rules.specs.Ranges.{nodeOk}
 use Rattle.rules.specs.Results.{Result}
@@ -56,7 +56,7 @@ finds-in-force node identity j p s r on ok is =
       value .0,
       value .1 ∙ ap (λ (x : Stepped). valueIn s (x .device .running)) (sym on),
       λ none. let f = from-factory j s whole (sym count ∙ none) in rw f (refl, refl, refl),
-      λ some. let e = earliest-block j s whole (omega (arith, count)) in (subst (λ (n : ℕ). Brings s n j (bringerTold (originIn j s) .number)) (sym count) (e .0), e .2, e .3),
+      λ some. let e = earliest-block j s whole (omega (arith, count)) in (subst (λ (n : ℕ). Brings s (valueTold (originIn j s)) n j (bringerTold (originIn j s) .number)) (sym count) (e .0), e .2, e .3),
     )
 
 -- what the rules tell, in C's numbers

@@ -42,7 +42,7 @@ FindsInForce =
     PoweredOn node identity j p → p .answer .refusal ≡ 0 → TracedSetting j s r →
     (r .refusal ≡ 0) × (r .value ≡ valueIn s (p .device .running))
     × (p .device .saves .filled ≡ 0 → (r .block ≡ 0) × (r .channel ≡ 0) × (r .kind ≡ 0))
-    × (1 ≤ p .device .saves .filled → Brings s (p .device .saves .filled) j (r .block) × (r .channel ≡ channelIn (blockAt (r .block) j)) × (r .kind ≡ kindIn (blockAt (r .block) j)))
+    × (1 ≤ p .device .saves .filled → Brings s (r .value) (p .device .saves .filled) j (r .block) × (r .channel ≡ channelIn (blockAt (r .block) j)) × (r .kind ≡ kindIn (blockAt (r .block) j)))
 
 -- a request of eight bytes on a channel, and one by LSS, as C names them
 abbrev pub asked : ℕ → List ℕ → Happening
