@@ -305,7 +305,7 @@ struct basintilt_answer basintilt_event(struct basintilt_device *device, uint8_t
 uint32_t basintilt_block(const uint8_t *block, size_t block_length, uint32_t place);
 
 /* Who set a setting, given by its index and subindex: the earliest block from which on every block of the run holds the value in force.
- * Refused with 1 for the journal's length and then with 6 for a pair that is no setting. The journal is only read, once from its first block on. */
+ * Refused with 1 for the journal's length and then with 6 for a pair that is no setting. The journal is only read, in one pass over its run. */
 struct basintilt_finding basintilt_origin(const uint8_t *journal, size_t journal_length, uint16_t index, uint8_t subindex);
 
 #endif

@@ -6,6 +6,10 @@ use rules::origins::Brought;
 ghost use mathlib.Core.Path.{_≡_};
 ghost use lib.IntN.{natAbs};
 
+pub fn print(text: &[u8]) {
+    io::write_all(STDOUT_FILENO, text);
+}
+
 // How far a number is from 0.
 fn size(value: i32) -> u64
     ensures { λ r. ⌜ r ≡ natAbs value ⌝ }
@@ -19,25 +23,24 @@ fn size(value: i32) -> u64
 
 pub fn print_number(value: i32) {
     if value < 0 {
-        io::write_all(STDOUT_FILENO, b"-");
+        print(b"-");
     }
     io::print_decimal(STDOUT_FILENO, size(value));
 }
 
 fn print_kind(kind: u8) {
     match kind {
-        journal::SAVE => io::write_all(STDOUT_FILENO, b" save"),
-        journal::LOAD => io::write_all(STDOUT_FILENO, b" load"),
-        _ => io::write_all(STDOUT_FILENO, b" store"),
+        journal::SAVE => print(b" save"),
+        journal::LOAD => print(b" load"),
+        _ => print(b" store"),
     }
-    ;
 }
 
 // A good block has channel and kind 1 to 3.
 pub fn print_bringer(bringer: Bringer) {
-    io::write_all(STDOUT_FILENO, b"block ");
+    print(b"block ");
     io::print_decimal(STDOUT_FILENO, bringer.number as u64);
-    io::write_all(STDOUT_FILENO, b" channel ");
+    print(b" channel ");
     io::print_decimal(STDOUT_FILENO, bringer.channel as u64);
     print_kind(bringer.kind);
 }
@@ -46,17 +49,17 @@ pub fn print_brought(brought: Brought) {
     match brought {
         Brought::ByBlock(value, bringer) => {
             print_number(value);
-            io::write_all(STDOUT_FILENO, b" ");
+            print(b" ");
             print_bringer(bringer);
         }
         Brought::ByFactory(value) => {
             print_number(value);
-            io::write_all(STDOUT_FILENO, b" factory");
+            print(b" factory");
         }
         Brought::Refused(number) => {
-            io::write_all(STDOUT_FILENO, b"R ");
+            print(b"R ");
             io::print_decimal(STDOUT_FILENO, number as u64);
         }
     }
-    io::write_all(STDOUT_FILENO, b"\n");
+    print(b"\n");
 }
