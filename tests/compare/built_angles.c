@@ -1,4 +1,4 @@
-/* Built cases of the angle: readings at and beside halves, in the PDO, in reads, in presets and in sums. */
+/* Built cases of the angle: readings at and beside halves, in the PDO, in reads, in presets and in sums; and every step's first reading. */
 #include "built_angles.h"
 
 #include "happenings.h"
@@ -24,11 +24,16 @@ static bool read_both(uint32_t index)
     return serve(1, READS, index, 0, 0) && serve(0, READS, index + 0x10, 0, 0);
 }
 
-/* The axes get opposite readings. Both are shown, read and taken as zeros, and the offsets stay for the reading that follows. */
+/* The axes get opposite readings, and both are shown. */
+static bool show_reading(int32_t m)
+{
+    return make_event(reading_of(BASINTILT_READING_X, m)) && make_event(reading_of(BASINTILT_READING_Y, -m)) && make_event(sync_frame());
+}
+
+/* They are also read and taken as zeros, and the offsets stay for the reading that follows. */
 static bool use_reading(int32_t m, int32_t preset)
 {
-    return make_event(reading_of(BASINTILT_READING_X, m)) && make_event(reading_of(BASINTILT_READING_Y, -m)) && make_event(sync_frame())
-           && read_both(0x6010) && set_both(0x6012, 0x2B, preset) && read_both(0x6013) && make_event(sync_frame());
+    return show_reading(m) && read_both(0x6010) && set_both(0x6012, 0x2B, preset) && read_both(0x6013) && make_event(sync_frame());
 }
 
 /* Halves on both sides of zero, the next thousandths beside them, and the ends of the readings. */
@@ -47,8 +52,19 @@ static bool every_half(int32_t resolution, int32_t preset)
     return same;
 }
 
+/* The first reading of every step and the last before it; of short steps one in so many. */
+static bool every_step(int32_t resolution, int32_t one_in)
+{
+    bool same = serve(0, 0x2B, 0x6000, 0, (uint32_t)resolution) && set_both(0x6011, 0x2F, 0);
+    int32_t next = resolution < 1000 ? one_in : 1;
+    for (int32_t first = resolution / 2; first <= BASINTILT_FARTHEST && same; first += next * resolution) {
+        same = show_reading(first) && show_reading(first - 1);
+    }
+    return same;
+}
+
 /* Every resolution, both bits of 6011 and 6021, and every pair of preset and differential. */
-bool built_angle_cases(void)
+bool built_angle_cases(uint32_t stride)
 {
     const uint32_t rows = sizeof presets / sizeof presets[0];
     bool same = fresh_sensor() && serve(0, 0x2F, 0x1800, 2, 1);
@@ -57,6 +73,9 @@ bool built_angle_cases(void)
         uint16_t resolution = resolutions[i / 4 % 4];
         same = serve(0, 0x2B, 0x6000, 0, resolution) && set_both(0x6011, 0x2F, (int32_t)(i % 4)) && set_both(0x6014, 0x2B, row[1])
                && every_half(resolution, row[0]);
+    }
+    for (uint32_t i = 1; i < 4 && same; i++) {
+        same = every_step(resolutions[i], (int32_t)stride);
     }
     return same;
 }

@@ -1,4 +1,4 @@
-/* Counts what was reached of rounding: where a reading stood between two steps when it was shown, read or taken as a zero. */
+/* Counts what was reached of rounding: where a reading stood between two steps when it was shown, read or taken as a zero, and how far from level. */
 #include "counts.h"
 
 const uint16_t angle_resolutions[RESOLUTIONS] = {1, 10, 100, 1000};
@@ -36,14 +36,28 @@ static struct rounded round_axis(const struct basintilt_device *device, unsigned
     return rounded;
 }
 
+/* Where steps are longer than a thousandth: neither edge is at the end of the readings. */
+static void count_edge(int32_t m, unsigned resolution)
+{
+    int32_t r = angle_resolutions[resolution];
+    int32_t size = m < 0 ? -m : m;
+    int32_t over = (size + r / 2) % r;
+    if (r > 1 && (over == 0 || over == r - 1)) {
+        unsigned edge = over == 0 ? FIRST_OF_STEP : LAST_BEFORE;
+        counts.step_edges[((resolution * SIGNS + (m < 0)) * EDGES + edge) * TENS + (unsigned)(size / TEN_DEGREES)]++;
+    }
+}
+
 static void count_use(const struct basintilt_device *device, unsigned axis, unsigned use)
 {
+    int32_t m = reading_at(device, axis)->m;
     unsigned resolution = 0;
     while (resolution + 1 < RESOLUTIONS && angle_resolutions[resolution] != device->running.resolution) {
         resolution++;
     }
-    unsigned kind = SIGNS * ((use * AXES + axis) * RESOLUTIONS + resolution) + (reading_at(device, axis)->m < 0);
+    unsigned kind = SIGNS * ((use * AXES + axis) * RESOLUTIONS + resolution) + (m < 0);
     counts.roundings[kind * PLACES + round_axis(device, axis).place]++;
+    count_edge(m, resolution);
 }
 
 /* A half whose sum with the offsets has the other sign: the sum rounded away from zero would be another. */

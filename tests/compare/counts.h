@@ -30,6 +30,9 @@ enum { IN_PDO, IN_READ, IN_PRESET, ANGLE_USES };
 enum { WHOLE_STEP, BELOW_HALF, HALF_TO_ODD, HALF_TO_EVEN, ABOVE_HALF, PLACES };
 enum { AXES = 2, RESOLUTIONS = 4, SIGNS = 2 };
 
+/* A step's first reading and the last before it, by the ten degrees that they stand in. */
+enum { LAST_BEFORE, FIRST_OF_STEP, EDGES, TEN_DEGREES = 10000, TENS = BASINTILT_FARTHEST / TEN_DEGREES };
+
 enum { LSS_MODES = 2, NETWORK_STATES = 3, LSS_HEADS = 10, BYTE_VALUES = 256, MATCHES = 2 * IDENTITY_NUMBERS * (BASINTILT_MOST_MATCHES + 1) };
 
 enum {
@@ -151,6 +154,7 @@ struct counts {
     uint64_t frames_under[NUMBER_SOURCES * FRAMES_UNDER];
     uint64_t reads_under[OBJECTS];
     uint64_t roundings[ANGLE_USES * AXES * RESOLUTIONS * SIGNS * PLACES];
+    uint64_t step_edges[RESOLUTIONS * SIGNS * EDGES * TENS];
     uint64_t sums_at_halves[AXES * SIGNS];
     uint64_t zeros_by_rounding[AXES * 2];
     uint64_t bringings[SETTING_PAIRS * BRINGINGS];

@@ -22,6 +22,21 @@ static bool can_be(unsigned which)
     return which / PLACES / SIGNS % RESOLUTIONS != 0 || which % PLACES == WHOLE_STEP;
 }
 
+static void show_edge(unsigned which)
+{
+    unsigned edge = which / TENS % EDGES;
+    unsigned sign = which / TENS / EDGES % SIGNS;
+    unsigned resolution = which / TENS / EDGES / SIGNS;
+    printf("6000 is %u, %s, %s, from %u degrees on", angle_resolutions[resolution], sign == 0 ? "from 0 up" : "below 0",
+           edge == FIRST_OF_STEP ? "a step's first reading" : "the last before a step", which % TENS * 10);
+}
+
+/* A step of one thousandth has one reading. */
+static bool has_edges(unsigned which)
+{
+    return which / TENS / EDGES / SIGNS != 0;
+}
+
 static void show_sum(unsigned which)
 {
     printf("%c, q %s", which / SIGNS == 0 ? 'X' : 'Y', which % SIGNS == 0 ? "above 0" : "below 0");
@@ -36,6 +51,7 @@ bool show_angle_counts(void)
 {
     const struct tally tallies[] = {
         TALLY("readings between two steps", roundings, show_rounding, false, can_be),
+        TALLY("edges of steps", step_edges, show_edge, false, has_edges),
         TALLY("halves whose sum has the other sign", sums_at_halves, show_sum, true, NULL),
         TALLY("presets that the cut q would judge otherwise", zeros_by_rounding, show_zero, true, NULL),
     };

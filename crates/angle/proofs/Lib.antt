@@ -1,3 +1,2 @@
 -- Laws of the numbers that this crate works with.
 pub mod Magnitude
-pub mod Halves

@@ -3,7 +3,8 @@ use mathlib.Core.Path.{_≡_}
 use mathlib.Core.Bool.{true}
 use Prim.Native.Nat.{ℕ, _≤_}
 use native.Mathlib.Omega.{arith}
-use lib.IntN.{ℤ}
+use borrow.Author.Tests.{le-ltb}
+use lib.IntN.{ℤ, pos}
 use lib.Signed.{mag}
 use mir.Facts.{toZ-ofZ}
 use mir.Syntax.{w32}
@@ -12,8 +13,12 @@ use Rattle.laws.proofs.Bools.{cond-both}
 use Rattle.laws.proofs.Signed.{mag-neg, mag-size}
 use Rattle.rules.proofs.Ranges.{inside-size}
 use Rattle.rules.proofs.Rounding.{no-larger}
-use Rattle.rules.specs.Angle.{reversed, steps, q}
+use Rattle.rules.specs.Angle.{reversed, rounded, steps, q}
 use Rattle.rules.specs.Ranges.{inside}
+
+pub rounded-small : (size r : ℕ) → rounded size r ≤ size
+unfolding steps
+rounded-small size r = simp (le-ltb size 0 (omega arith)) at (no-larger (pos size) r)
 
 pub steps-small : (m : ℤ) (r : ℕ) → inside m ≡ true → mag (steps m r) ≤ 180000
 steps-small m r h = omega (arith, mag-size (steps m r), no-larger m r, inside-size m h)

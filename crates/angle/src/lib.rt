@@ -1,8 +1,9 @@
 // Angle and zero: what an axis shows, and the offset that a preset asks for.
 ghost use mathlib.Core.Path.{_≡_};
 ghost use mathlib.Core.Bool.{true};
+ghost use Prim.Native.Nat.{_/_, _≤_};
 ghost use Rattle.rules.specs.declared.objects.Setting.the-variants.{Resolution};
-ghost use Rattle.rules.specs.Angle.{steps, q, nearer, sum, angle, shown, offset, zeroed};
+ghost use Rattle.rules.specs.Angle.{rounded, steps, q, nearer, sum, angle, shown, offset, zeroed};
 ghost use Rattle.rules.specs.Ranges.{inside, axisOk};
 ghost use Rattle.rules.specs.Settings.{within};
 use rules::aborts;
@@ -14,15 +15,51 @@ use rules::states;
 // What the PDO carries where there is no angle.
 const NO_ANGLE: i16 = -32768;
 
-// m / r rounded to the nearest whole number, halves away from zero: moved half of r away from zero, then cut.
+// n / 10 as n / 2 times 13107.25 / 65536: where a core has no divide instruction, the compiler calls a routine for a fixed divisor too.
+fn tenth(n: u32) -> u32
+    requires { ⌜ n ≤ 180500 ⌝ }
+    ensures { λ t. ⌜ t ≡ n / 10 ⌝ }
+{
+    (n / 2 * 13107 + n / 8) / 65536
+}
+
+fn hundredth(n: u32) -> u32
+    requires { ⌜ n ≤ 180500 ⌝ }
+    ensures { λ t. ⌜ t ≡ n / 100 ⌝ }
+{
+    tenth(tenth(n))
+}
+
+fn thousandth(n: u32) -> u32
+    requires { ⌜ n ≤ 180500 ⌝ }
+    ensures { λ t. ⌜ t ≡ n / 1000 ⌝ }
+{
+    tenth(hundredth(n))
+}
+
+// A size over r, rounded: half of r is added, and each resolution has its own divisor.
+fn rounded(size: u32, r: u16) -> u32
+    requires { ⌜ (within Resolution r ≡ true) × (size ≤ 180000) ⌝ }
+    ensures { λ t. ⌜ t ≡ rounded size r ⌝ }
+{
+    let half = r / 2;
+    let n = size + (half as u32);
+    match r {
+        1 => n,
+        10 => tenth(n),
+        100 => hundredth(n),
+        _ => thousandth(n),
+    }
+}
+
+// m / r rounded to the nearest whole number, halves away from zero: rounded by its size, with its sign.
 fn steps(m: i32, r: u16) -> i32
     requires { ⌜ (within Resolution r ≡ true) × (inside m ≡ true) ⌝ }
     ensures { λ t. ⌜ t ≡ steps m r ⌝ }
 {
-    let step = r as i32;
-    let half = step / 2;
-    let moved = if m < 0 { m - half } else { m + half };
-    moved / step
+    let size = if m < 0 { -m } else { m };
+    let whole = rounded(size as u32, r) as i32;
+    if m < 0 { -whole } else { whole }
 }
 
 // The steps with the sign that bit 0 of 6011 gives them.

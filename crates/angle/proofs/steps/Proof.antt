@@ -1,70 +1,98 @@
--- `steps` meets its contract: a reading in range may be moved by half of r, and a resolution is above 0.
-use mathlib.Core.Path.{_≡_, sym, _∙_, ap, subst}
-use mathlib.Core.Bool.{Bool, true, false}
+-- `steps` meets its contract: a reading in range is rounded by its size and gets its sign back.
+use mathlib.Core.Path.{_≡_, refl, sym, _∙_, ap, subst}
+use mathlib.Core.Bool.{Bool, true, false, cond}
 use mathlib.Core.Logic.{⊎-elim}
-use Prim.Native.Nat.{_/_}
-use borrow.Author.Needs.{needs}
+use Prim.Native.Nat.{ℕ, _≤_}
 use native.Mathlib.Omega.{arith}
-use lib.Signed.{ltZ, quotZ}
-use lib.IntN.{ℤ, pos}
+use lib.Signed.{ltZ}
+use lib.IntN.{ℤ, pos, negℤ, natAbs, _-ℤ_}
 use mir.Facts.{toZ-ofZ, toZ-pos}
 use mir.Syntax.{w32}
 use mir.Val.{SFits, toZ, ofZ}
-use Rattle.laws.proofs.Signed.{mag-quot, mag-size}
-use Rattle.rules.proofs.Ranges.{resolution-above, inside-size}
-use Rattle.angle.proofs.Halves.{moved-by, moved, cut, moved-small}
+use Rattle.laws.proofs.Signed.{mag-neg, minus, below-zero, from-zero, abs-non, back}
+use Rattle.rules.proofs.Ranges.{inside-size}
+use Rattle.rules.specs.Angle.{rounded, steps}
+use Rattle.angle.proofs.Magnitude.{rounded-small}
 use Rattle.angle.proofs.steps.Statement.{statement}
 use Rattle.angle.proofs.steps.Tie as tie
 
-step : (s : tie.Start) → toZ w32 (s .args .r) ≡ pos (s .args .r)
-step s = toZ-pos w32 {n = s .args .r} (omega (arith, s .fits .r))
+-- what is no larger than a reading fits, with either sign
+fits : (n : ℕ) → n ≤ 180000 → SFits w32 (pos n)
+fits n h = record { sfits = omega arith }
 
-half : (s : tie.Start) → SFits w32 (pos (s .args .r / 2))
-half s = record { sfits = omega (arith, s .fits .r) }
+turned : (n : ℕ) → n ≤ 180000 → SFits w32 (negℤ (pos n))
+turned n h = record { sfits = omega (arith, mag-neg (pos n)) }
 
-fits : (s : tie.Start) → SFits w32 (moved (s .args .m) (s .args .r))
-fits s =
-    let m = s .args .m in
-    let r = s .args .r in
-    record { sfits = omega (arith, moved-small m r, mag-size m, inside-size m (s .pre .1), s .fits .r) }
+-- the size of a number, by its sign
+sized : (t : Bool) (m : ℤ) → ltZ m (pos 0) ≡ t → cond t (pos 0 -ℤ m) m ≡ pos (natAbs m)
+sized true m e = minus m ∙ subst (λ z. negℤ z ≡ pos (natAbs z)) (below-zero m e) refl
+sized false m e = sym (from-zero m e) ∙ ap pos (sym (abs-non m e))
 
--- m and half of r as the machine reads them, and what either arm makes of them
 abbrev read-m : tie.Start → ℤ
 read-m s = toZ w32 (ofZ w32 (s .args .m))
 
-abbrev read-half : tie.Start → ℤ
-read-half s = toZ w32 (ofZ w32 (quotZ (toZ w32 (s .args .r)) (pos 2)))
+arm : (s : tie.Start) (t : Bool) → ltZ (read-m s) (pos 0) ≡ t → cond t (pos 0 -ℤ read-m s) (read-m s) ≡ pos (natAbs (s .args .m))
+arm s t e = simp (toZ-ofZ (s .fits .m)) (sized t (s .args .m) (simp (toZ-ofZ (s .fits .m)) at e))
 
-arm : (s : tie.Start) (t : Bool) → ltZ (read-m s) (pos 0) ≡ t → moved (s .args .m) (s .args .r) ≡ moved-by t (read-m s) (read-half s)
-arm s t e = simp (toZ-ofZ (s .fits .m), step s, toZ-ofZ (half s), simp (toZ-ofZ (s .fits .m)) at e)
+size-small : (s : tie.Start) → natAbs (s .args .m) ≤ 180000
+size-small s = inside-size (s .args .m) (s .pre .1)
 
-cast-step : tie.Need-cast-step
-cast-step c = search needs
+below-fits : (s : tie.Start) → ltZ (read-m s) (pos 0) ≡ true → SFits w32 (pos 0 -ℤ read-m s)
+below-fits s e = subst (SFits w32) (sym (arm s true e)) (fits _ (size-small s))
 
-div-half : tie.Need-div-half
-div-half c = simp (step c) (omega arith, half c)
-
-sub-moved : tie.Need-sub-moved
-sub-moved c = subst (SFits w32) (arm (c .before) true (c .if1 .taken)) (fits (c .before))
-
-add-moved : tie.Need-add-moved
-add-moved c = subst (SFits w32) (arm (c .before) false (c .if1 .left)) (fits (c .before))
-
-moved-is : (c : tie.Joined1) → toZ w32 (c .if1 .moved) ≡ moved (c .before .args .m) (c .before .args .r)
-moved-is c =
+size-is : (c : tie.Joined1) → toZ w32 (c .if1 .size) ≡ pos (natAbs (c .before .args .m))
+size-is c =
     let s = c .before in
-    let kept : ofZ w32 (moved (s .args .m) (s .args .r)) ≡ c .if1 .moved =
-    ⊎-elim (λ w. ap (ofZ w32) (arm s true (w .0 .taken)) ∙ sym (w .1)) (λ w. ap (ofZ w32) (arm s false (w .0 .left)) ∙ sym (w .1)) (c .if1 .came) in
-    ap (toZ w32) (sym kept) ∙ toZ-ofZ (fits s)
+    ⊎-elim (λ w. ap (toZ w32) (w .1) ∙ back (below-fits s (w .0 .taken)) (arm s true (w .0 .taken))) (λ w. ap (toZ w32) (w .1) ∙ arm s false (w .0 .left))
+    (c .if1 .came)
 
-quotient : (c : tie.Joined1) → SFits w32 (quotZ (moved (c .before .args .m) (c .before .args .r)) (pos (c .before .args .r)))
-quotient c = record { sfits = omega (arith, mag-quot (moved (c .before .args .m) (c .before .args .r)) (c .before .args .r), fits (c .before) .sfits) }
+sub-size : tie.Need-sub-size
+sub-size c = below-fits (c .before) (c .if1 .taken)
 
-div-result : tie.Need-div-result
-div-result c = simp (moved-is c, step (c .before)) (resolution-above (c .before .args .r) (c .before .pre .0), quotient c)
+cast-rounded : tie.Need-cast-rounded
+cast-rounded c = simp (size-is c) (tt, omega (arith, size-small (c .before)))
+
+rounded-requires : tie.Need-rounded-requires
+rounded-requires c κs = simp (size-is c) (c .before .pre .0, size-small (c .before))
+
+-- what comes back is small, and the machine reads it as it is
+whole : (c : tie.After-rounded) → c .rounded .result ≡ rounded (natAbs (c .before .before .args .m)) (c .before .before .args .r)
+whole c = simp (size-is (c .before)) at (c .rounded .ensures)
+
+whole-small : (c : tie.After-rounded) → c .rounded .result ≤ 180000
+whole-small c =
+    let s = c .before .before in
+    omega (arith, whole c, rounded-small (natAbs (s .args .m)) (s .args .r), size-small s)
+
+read-whole : (c : tie.After-rounded) → toZ w32 (c .rounded .result) ≡ pos (c .rounded .result)
+read-whole c = toZ-pos w32 (omega (arith, whole-small c))
+
+cast-whole : tie.Need-cast-whole
+cast-whole c = fits _ (whole-small c)
+
+sub-result : tie.Need-sub-result
+sub-result c = simp (read-whole (c .before), minus) (turned _ (whole-small (c .before)))
 
 returns : tie.Need-returns
-returns c = simp (moved-is c, step (c .before)) (toZ-ofZ (quotient c) ∙ cut (c .before .args .m) (c .before .args .r))
+unfolding steps
+returns c =
+    let s = c .before .before .before in
+    simp (read-whole (c .before), minus, simp (toZ-ofZ (s .fits .m)) at (c .if2 .taken), sym (whole (c .before))) (toZ-ofZ (turned _ (whole-small (c .before))))
+
+returns-2 : tie.Need-returns-2
+unfolding steps
+returns-2 c =
+    let s = c .before .before .before in
+    simp (read-whole (c .before), simp (toZ-ofZ (s .fits .m)) at (c .if2 .left), sym (whole (c .before)))
 
 pub steps-spec : {M : Type 1} → statement M
-steps-spec = tie.close (tie.spec cast-step div-half sub-moved add-moved div-result returns)
+steps-spec =
+    tie.close
+    (tie.spec
+    sub-size
+    cast-rounded
+    rounded-requires
+    cast-whole
+    sub-result
+    returns
+    returns-2)
