@@ -12,6 +12,12 @@ static const uint16_t resolutions[] = {1, 10, 100, 1000};
 /* Presets on both sides of zero and at the ends of 16 bits, and the differentials beside them. */
 static const int16_t presets[][2] = {{0, 0}, {3, 2}, {-3, -2}, {INT16_MAX, 0}, {INT16_MIN, 0}};
 
+/* A fresh sensor that shows both axes at each SYNC. */
+static bool showing_sensor(void)
+{
+    return fresh_sensor() && serve(0, 0x2F, 0x1800, 2, 1);
+}
+
 /* The same number to X's object and to Y's, and a read of both. */
 static bool set_both(uint32_t index, uint8_t first, int32_t value)
 {
@@ -55,7 +61,7 @@ static bool every_half(int32_t resolution, int32_t preset)
 /* The first reading of every step and the last before it; of short steps one in so many. */
 static bool every_step(int32_t resolution, int32_t one_in)
 {
-    bool same = serve(0, 0x2B, 0x6000, 0, (uint32_t)resolution) && set_both(0x6011, 0x2F, 0);
+    bool same = showing_sensor() && serve(0, 0x2B, 0x6000, 0, (uint32_t)resolution);
     int32_t next = resolution < 1000 ? one_in : 1;
     for (int32_t first = resolution / 2; first <= BASINTILT_FARTHEST && same; first += next * resolution) {
         same = show_reading(first) && show_reading(first - 1);
@@ -67,7 +73,7 @@ static bool every_step(int32_t resolution, int32_t one_in)
 bool built_angle_cases(uint32_t stride)
 {
     const uint32_t rows = sizeof presets / sizeof presets[0];
-    bool same = fresh_sensor() && serve(0, 0x2F, 0x1800, 2, 1);
+    bool same = showing_sensor();
     for (uint32_t i = 0; i < 4 * 4 * rows && same; i++) {
         const int16_t *row = presets[i / 16];
         uint16_t resolution = resolutions[i / 4 % 4];
