@@ -1,7 +1,8 @@
 // Angle and zero: what an axis shows, and the offset that a preset asks for.
 ghost use mathlib.Core.Path.{_≡_};
 ghost use mathlib.Core.Bool.{true};
-ghost use Prim.Native.Nat.{_/_, _≤_};
+ghost use Prim.Native.Nat.{_+_, _/_, _≤_};
+ghost use lib.IntN.{natAbs};
 ghost use Rattle.rules.specs.declared.objects.Setting.the-variants.{Resolution};
 ghost use Rattle.rules.specs.Angle.{rounded, steps, q, nearer, sum, angle, shown, offset, zeroed};
 ghost use Rattle.rules.specs.Ranges.{inside, axisOk};
@@ -17,21 +18,21 @@ const NO_ANGLE: i16 = -32768;
 
 // n / 10 as n / 2 times 13107.25 / 65536: where a core has no divide instruction, the compiler calls a routine for a fixed divisor too.
 fn tenth(n: u32) -> u32
-    requires { ⌜ n ≤ 180500 ⌝ }
+    requires { ⌜ n ≤ 180000 + 500 ⌝ }
     ensures { λ t. ⌜ t ≡ n / 10 ⌝ }
 {
     (n / 2 * 13107 + n / 8) / 65536
 }
 
 fn hundredth(n: u32) -> u32
-    requires { ⌜ n ≤ 180500 ⌝ }
+    requires { ⌜ n ≤ 180000 + 500 ⌝ }
     ensures { λ t. ⌜ t ≡ n / 100 ⌝ }
 {
     tenth(tenth(n))
 }
 
 fn thousandth(n: u32) -> u32
-    requires { ⌜ n ≤ 180500 ⌝ }
+    requires { ⌜ n ≤ 180000 + 500 ⌝ }
     ensures { λ t. ⌜ t ≡ n / 1000 ⌝ }
 {
     tenth(hundredth(n))
@@ -52,13 +53,20 @@ fn rounded(size: u32, r: u16) -> u32
     }
 }
 
+// How far a reading is from 0.
+fn size_of(m: i32) -> u32
+    requires { ⌜ inside m ≡ true ⌝ }
+    ensures { λ t. ⌜ t ≡ natAbs m ⌝ }
+{
+    if m < 0 { (-m) as u32 } else { m as u32 }
+}
+
 // m / r rounded to the nearest whole number, halves away from zero: rounded by its size, with its sign.
 fn steps(m: i32, r: u16) -> i32
     requires { ⌜ (within Resolution r ≡ true) × (inside m ≡ true) ⌝ }
     ensures { λ t. ⌜ t ≡ steps m r ⌝ }
 {
-    let size = if m < 0 { -m } else { m };
-    let whole = rounded(size as u32, r) as i32;
+    let whole = rounded(size_of(m), r) as i32;
     if m < 0 { -whole } else { whole }
 }
 
