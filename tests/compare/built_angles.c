@@ -36,7 +36,7 @@ static bool show_reading(int32_t m)
     return make_event(reading_of(BASINTILT_READING_X, m)) && make_event(reading_of(BASINTILT_READING_Y, -m)) && make_event(sync_frame());
 }
 
-/* They are also read and taken as zeros, and the offsets stay for the reading that follows. */
+/* Both are shown, read and taken as zeros, and the offsets stay for the reading that follows. */
 static bool use_reading(int32_t m, int32_t preset)
 {
     return show_reading(m) && read_both(0x6010) && set_both(0x6012, 0x2B, preset) && read_both(0x6013) && make_event(sync_frame());
@@ -69,7 +69,7 @@ static bool every_step(int32_t resolution, int32_t one_in)
     return same;
 }
 
-/* Every resolution, both bits of 6011 and 6021, and every pair of preset and differential. */
+/* Every resolution, both bits of 6011 and 6021, and every pair of preset and differential; then every step. */
 bool built_angle_cases(uint32_t stride)
 {
     const uint32_t rows = sizeof presets / sizeof presets[0];

@@ -36,7 +36,7 @@ static struct rounded round_axis(const struct basintilt_device *device, unsigned
     return rounded;
 }
 
-/* Where steps are longer than a thousandth: neither edge is at the end of the readings. */
+/* A step of one thousandth has no edges, and no edge is at 180 degrees: the place is below TENS. */
 static void count_edge(int32_t m, unsigned resolution)
 {
     int32_t r = angle_resolutions[resolution];

@@ -38,7 +38,7 @@ fn thousandth(n: u32) -> u32
     tenth(hundredth(n))
 }
 
-// A size over r, rounded: half of r is added, and each resolution has its own divisor.
+// A size over r, rounded: half of r is added, and each resolution has its own divisor; behind 1, 10 and 100 only 1000 is left.
 fn rounded(size: u32, r: u16) -> u32
     requires { ⌜ (within Resolution r ≡ true) × (size ≤ 180000) ⌝ }
     ensures { λ t. ⌜ t ≡ rounded size r ⌝ }
