@@ -13,6 +13,12 @@ ORIGIN = re.compile(r"origin ([0-9A-F]{4}:\d+) (-?\d+) (?:factory|block (\d+) ch
 WRONG_LENGTH = "R 1"
 BY = {"1": "1", "2": "2", "3": "LSS"}
 # For each setting the head of its column and what it is; the groups are as wide as a terminal.
+OF_AXIS = {
+    1: ("oper", "operating of {}: 1 sign, 2 offsets"),
+    2: ("preset", "preset of {}"),
+    3: ("offset", "offset of {}"),
+    4: ("differ", "differential of {}"),
+}
 GROUPS = {
     "Heartbeat, PDO and resolution": {
         "1017:0": ("heartbeat", "heartbeat, ms"),
@@ -22,14 +28,7 @@ GROUPS = {
         "6000:0": ("resolution", "resolution, 0.001 degrees a step"),
     },
     "Axis X (601x) and axis Y (602x)": {
-        "6011:0": ("oper", "operating of X: 1 sign, 2 offsets"),
-        "6012:0": ("preset", "preset of X"),
-        "6013:0": ("offset", "offset of X"),
-        "6014:0": ("differ", "differential of X"),
-        "6021:0": ("oper", "operating of Y: 1 sign, 2 offsets"),
-        "6022:0": ("preset", "preset of Y"),
-        "6023:0": ("offset", "offset of Y"),
-        "6024:0": ("differ", "differential of Y"),
+        f"60{tens}{ones}:0": (head, what.format(axis)) for tens, axis in ((1, "X"), (2, "Y")) for ones, (head, what) in OF_AXIS.items()
     },
 }
 SETTINGS = {pair: names for group in GROUPS.values() for pair, names in group.items()}

@@ -3,11 +3,10 @@
 
 #include "happenings.h"
 #include "requests.h"
+#include "settings.h"
 #include "steps.h"
 
 enum { HALVES = 4 };
-
-static const uint16_t resolutions[] = {1, 10, 100, 1000};
 
 /* Presets on both sides of zero and at the ends of 16 bits, and the differentials beside them. */
 static const int16_t presets[][2] = {{0, 0}, {3, 2}, {-3, -2}, {INT16_MAX, 0}, {INT16_MIN, 0}};
@@ -74,13 +73,13 @@ bool built_angle_cases(uint32_t stride)
 {
     const uint32_t rows = sizeof presets / sizeof presets[0];
     bool same = showing_sensor();
-    for (uint32_t i = 0; i < 4 * 4 * rows && same; i++) {
-        const int16_t *row = presets[i / 16];
-        uint16_t resolution = resolutions[i / 4 % 4];
-        same = serve(0, 0x2B, 0x6000, 0, resolution) && set_both(0x6011, 0x2F, (int32_t)(i % 4)) && set_both(0x6014, 0x2B, row[1])
+    for (uint32_t i = 0; i < 4 * RESOLUTIONS * rows && same; i++) {
+        const int16_t *row = presets[i / 4 / RESOLUTIONS];
+        int32_t resolution = resolutions[i / 4 % RESOLUTIONS];
+        same = serve(0, 0x2B, 0x6000, 0, (uint32_t)resolution) && set_both(0x6011, 0x2F, (int32_t)(i % 4)) && set_both(0x6014, 0x2B, row[1])
                && every_half(resolution, row[0]);
     }
-    for (uint32_t i = 1; i < 4 && same; i++) {
+    for (uint32_t i = 1; i < RESOLUTIONS && same; i++) {
         same = every_step(resolutions[i], (int32_t)stride);
     }
     return same;

@@ -4,6 +4,7 @@
 #include "happenings.h"
 #include "origins.h"
 #include "requests.h"
+#include "settings.h"
 #include "steps.h"
 
 #define COUNT(array) (sizeof(array) / sizeof(array)[0])
@@ -14,7 +15,6 @@ static const int32_t periods[] = {0, 25, 255, 256, 257, 0x1900, 32767, 32768, 65
 static const int32_t marks[] = {0, 1};
 static const int32_t types[] = {1, 2, 240, 254, 255};
 static const int32_t timers[] = {0, 1, 100, 255, 256, 257, 32767, 32768, 65280, 65535};
-static const int32_t resolutions[] = {1, 10, 100, 1000};
 static const int32_t operatings[] = {0, 1, 2, 3};
 static const int32_t angles[] = {0, 1, 128, 255, 256, 257, 32767, -1, -129, -255, -256, -32767, -32768};
 

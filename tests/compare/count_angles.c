@@ -1,8 +1,6 @@
 /* Counts what was reached of rounding: where a reading stood between two steps when it was shown, read or taken as a zero, and how far from level. */
 #include "counts.h"
 
-const uint16_t angle_resolutions[RESOLUTIONS] = {1, 10, 100, 1000};
-
 struct rounded {
     unsigned place;
     int32_t cut;     /* s times m / r, cut toward zero */
@@ -39,7 +37,7 @@ static struct rounded round_axis(const struct basintilt_device *device, unsigned
 /* A step of one thousandth has no edges, and no edge is at 180 degrees: the place is below TENS. */
 static void count_edge(int32_t m, unsigned resolution)
 {
-    int32_t r = angle_resolutions[resolution];
+    int32_t r = resolutions[resolution];
     int32_t size = m < 0 ? -m : m;
     int32_t over = (size + r / 2) % r;
     if (r > 1 && (over == 0 || over == r - 1)) {
@@ -52,7 +50,7 @@ static void count_use(const struct basintilt_device *device, unsigned axis, unsi
 {
     int32_t m = reading_at(device, axis)->m;
     unsigned resolution = 0;
-    while (resolution + 1 < RESOLUTIONS && angle_resolutions[resolution] != device->running.resolution) {
+    while (resolution + 1 < RESOLUTIONS && resolutions[resolution] != device->running.resolution) {
         resolution++;
     }
     unsigned kind = SIGNS * ((use * AXES + axis) * RESOLUTIONS + resolution) + (m < 0);

@@ -7,6 +7,7 @@
 #include "objects.h"
 #include "origins.h"
 #include "pair.h"
+#include "settings.h"
 
 enum { CHANNELS = BASINTILT_CHANNELS, REFUSALS = 5, EVENT_KINDS = 6, ABORTS = 13, REPLIES = 8, LENGTH_CLASSES = 4 };
 
@@ -28,7 +29,7 @@ enum {
 /* What an angle was worked out for, and where its reading stood: at a step, or between two of them. */
 enum { IN_PDO, IN_READ, IN_PRESET, ANGLE_USES };
 enum { WHOLE_STEP, BELOW_HALF, HALF_TO_ODD, HALF_TO_EVEN, ABOVE_HALF, PLACES };
-enum { AXES = 2, RESOLUTIONS = 4, SIGNS = 2 };
+enum { AXES = 2, SIGNS = 2 };
 
 /* A step's first reading and the last before it, by the ten degrees that they stand in. */
 enum { LAST_BEFORE, FIRST_OF_STEP, EDGES, TEN_DEGREES = 10000, TENS = BASINTILT_FARTHEST / TEN_DEGREES };
@@ -170,7 +171,6 @@ extern const uint32_t abort_codes[ABORTS];
 extern const uint8_t reply_firsts[REPLIES];
 
 extern const uint8_t leaving_commands[LEAVING_COMMANDS];
-extern const uint16_t angle_resolutions[RESOLUTIONS];
 
 void count_call(const struct pair *pair, const struct call *call);
 

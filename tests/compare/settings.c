@@ -1,6 +1,8 @@
 /* Settings and stored node numbers in range, their ends more often than their middle. */
 #include "settings.h"
 
+const int32_t resolutions[RESOLUTIONS] = {1, 10, 100, 1000};
+
 uint16_t any_heartbeat(struct chance *chance)
 {
     return (uint16_t)PICK(chance, 0, 0, 25, 26, 100, 65535, between(chance, 25, 200), between(chance, 25, 65535));
@@ -18,7 +20,7 @@ uint16_t any_timer(struct chance *chance)
 
 uint16_t any_resolution(struct chance *chance)
 {
-    return (uint16_t)PICK(chance, 1, 10, 100, 1000);
+    return (uint16_t)resolutions[below(chance, RESOLUTIONS)];
 }
 
 int16_t any_angle(struct chance *chance)

@@ -5,6 +5,9 @@
 #include "basintilt.h"
 #include "chance.h"
 
+enum { RESOLUTIONS = 4 };
+extern const int32_t resolutions[RESOLUTIONS];
+
 uint16_t any_heartbeat(struct chance *chance);
 uint8_t any_transmission(struct chance *chance);
 uint16_t any_timer(struct chance *chance);

@@ -12,7 +12,7 @@ static void show_rounding(unsigned which)
     unsigned resolution = which / PLACES / SIGNS % RESOLUTIONS;
     unsigned axis = which / PLACES / SIGNS / RESOLUTIONS % AXES;
     unsigned use = which / PLACES / SIGNS / RESOLUTIONS / AXES;
-    printf("%s of %c, 6000 is %u, %s, %s", uses[use], axis == 0 ? 'X' : 'Y', angle_resolutions[resolution],
+    printf("%s of %c, 6000 is %d, %s, %s", uses[use], axis == 0 ? 'X' : 'Y', (int)resolutions[resolution],
            sign == 0 ? "from 0 up" : "below 0", places[which % PLACES]);
 }
 
@@ -27,7 +27,7 @@ static void show_edge(unsigned which)
     unsigned edge = which / TENS % EDGES;
     unsigned sign = which / TENS / EDGES % SIGNS;
     unsigned resolution = which / TENS / EDGES / SIGNS;
-    printf("6000 is %u, %s, %s, from %u degrees on", angle_resolutions[resolution], sign == 0 ? "from 0 up" : "below 0",
+    printf("6000 is %d, %s, %s, from %u degrees on", (int)resolutions[resolution], sign == 0 ? "from 0 up" : "below 0",
            edge == FIRST_OF_STEP ? "a step's first reading" : "the last before a step", which % TENS * 10);
 }
 
