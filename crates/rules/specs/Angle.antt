@@ -1,6 +1,6 @@
--- Angle and zero, with item 2 of 02.
+-- Angle and zero, with items 2 and 5 of 02.
 use mathlib.Core.Bool.{Bool, cond}
-use Prim.Native.Nat.{ℕ, _+_, _*_, _/_, _%_}
+use Prim.Native.Nat.{ℕ, suc, _+_, _*_, _-_, _/_, _%_}
 use lib.Dec.{eqb}
 use lib.IntN.{ℤ, pos, negℤ, natAbs, _+ℤ_, _-ℤ_}
 use lib.Signed.{ltZ}
@@ -39,9 +39,22 @@ unfoldable pub sum : ℤ → ℕ → ℕ → ℤ → ℤ → ℤ
 sum m r operating offset differential =
     cond (shifted operating) (q m r operating +ℤ offset +ℤ differential) (q m r operating)
 
+-- what is left of a number when whole turns are taken from it or added to it: from 0 to below a turn
+abbrev pub rest : ℕ → ℤ → ℕ
+rest turn (ℤ.pos n) = n % turn
+rest turn (ℤ.negsuc n) = turn - suc (n % turn)
+
+-- "moved by whole turns (360,000 / r) until it is above −180,000 / r and at most 180,000 / r": what is left of its way up to 180,000 / r
+unfoldable pub turned : ℕ → ℤ → ℤ
+turned r z = pos (180000 / r) -ℤ pos (rest (360000 / r) (pos (180000 / r) -ℤ z))
+
+-- "Where bit 1 of 6011 is set, the sum is first moved by whole turns"
+abbrev pub moved : ℕ → ℕ → ℤ → ℤ
+moved r operating z = cond (shifted operating) (turned r z) z
+
 -- "and then brought into −32,767 to 32,767 at the nearer end"
 unfoldable pub angle : ℤ → ℕ → ℕ → ℤ → ℤ → ℤ
-angle m r operating offset differential = nearer 32767 (sum m r operating offset differential)
+angle m r operating offset differential = nearer 32767 (moved r operating (sum m r operating offset differential))
 
 -- "An axis that is none or faulty shows −32,768 in the PDO"
 unfoldable pub shown : Reading → ℕ → AxisSettings → ℤ

@@ -26,6 +26,7 @@ pub mod Settings
 -- Angle and zero
 pub mod Angle
 pub mod Rounding
+pub mod Turning
 -- Service channels
 pub mod Requests
 pub mod Writes

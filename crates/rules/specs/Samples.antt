@@ -1,4 +1,4 @@
--- Sample values (a) to (l), with item 2 of 02, one table.
+-- Sample values (a) to (l), with item 2 of 02, and turned angles of item 5, one table.
 use mathlib.Core.Path.{_≡_}
 use mathlib.Core.Bool.{Bool, true, false}
 use mathlib.Core.List.{List, [], _∷_}
@@ -29,7 +29,7 @@ angleOf m r operating offset = shows (angle m r operating offset (pos 0))
 abbrev pub presetOn : ℤ → ℕ → ℤ → Sample
 presetOn m r preset = zeroes (zeroed (record { state = good; m = m }) r 0 (pos 0) preset)
 
--- what is asked, (a) to (l) in their order
+-- what is asked, (a) to (l) in their order; then with bit 1: half a turn either way, 91 turns either way, and at r 1 past half a turn either way
 abbrev pub asked : List Sample
 asked =
     angleOf (pos 12345) 10 0 (pos 0) ∷ angleOf (pos 12345) 10 1 (pos 0) ∷ angleOf (minus 19) 10 0 (pos 0) ∷
@@ -39,7 +39,10 @@ asked =
     passes (within Heartbeat 0) ∷ passes (within Heartbeat 25) ∷ passes (within Heartbeat 24) ∷
     passes (within (Pdo First Transmission) 240) ∷ passes (within (Pdo First Transmission) 254) ∷ passes (within (Pdo First Transmission) 0) ∷
     passes (within (Pdo First Transmission) 241) ∷ passes (within (Pdo First Transmission) 253) ∷
-    begins (getD firstSegment 0 0) ∷ begins (getD lastSegment 0 0) ∷ []
+    begins (getD firstSegment 0 0) ∷ begins (getD lastSegment 0 0) ∷
+    angleOf (minus 180000) 10 2 (pos 0) ∷ angleOf (pos 180000) 10 2 (pos 0) ∷
+    angleOf (pos 0) 1000 2 (pos 32767) ∷ angleOf (pos 0) 1000 2 (minus 32768) ∷
+    angleOf (pos 180000) 1 2 (pos 32767) ∷ angleOf (minus 180000) 1 2 (minus 32767) ∷ []
 
 -- what the paper says
 abbrev pub told : List Sample
@@ -51,7 +54,10 @@ told =
     passes true ∷ passes true ∷ passes false ∷
     passes true ∷ passes true ∷ passes false ∷
     passes false ∷ passes false ∷
-    begins 0x00 ∷ begins 0x19 ∷ []
+    begins 0x00 ∷ begins 0x19 ∷
+    shows (pos 18000) ∷ shows (pos 18000) ∷
+    shows (pos 7) ∷ shows (minus 8) ∷
+    shows (minus 32767) ∷ shows (pos 32767) ∷ []
 
 abbrev pub Samples : Type 0
 Samples = asked ≡ told
