@@ -1,2 +1,3 @@
 -- Laws of the numbers that this crate works with.
 pub mod Magnitude
+pub mod Turns

@@ -1,10 +1,11 @@
 // Angle and zero: what an axis shows, and the offset that a preset asks for.
 ghost use mathlib.Core.Path.{_≡_};
 ghost use mathlib.Core.Bool.{true};
-ghost use Prim.Native.Nat.{_+_, _/_, _≤_};
-ghost use lib.IntN.{natAbs};
+ghost use Prim.Native.Nat.{_+_, _/_, _%_, _≤_};
+ghost use lib.IntN.{pos, natAbs, _-ℤ_};
+ghost use lib.Signed.{mag};
 ghost use Rattle.rules.specs.declared.objects.Setting.the-variants.{Resolution};
-ghost use Rattle.rules.specs.Angle.{rounded, steps, q, nearer, sum, angle, shown, offset, zeroed};
+ghost use Rattle.rules.specs.Angle.{rounded, steps, q, nearer, sum, turned, moved, angle, shown, offset, zeroed};
 ghost use Rattle.rules.specs.Ranges.{inside, axisOk};
 ghost use Rattle.rules.specs.Settings.{within};
 use rules::aborts;
@@ -92,6 +93,50 @@ fn sum(m: i32, r: u16, operating: u16, offset: i16, differential: i16) -> i32
     }
 }
 
+// What whole turns leave of n steps: a turn is 360000, 36000, 3600 or 360 of them. Behind its power of two 16 bits are enough, and of 16 bits
+// a fixed divisor is a product on every core.
+fn rest(n: u32, r: u16) -> u32
+    requires { ⌜ (within Resolution r ≡ true) × (n ≤ 360000 + 65537 + 360000 / r) ⌝ }
+    ensures { λ t. ⌜ t ≡ n % (360000 / r) ⌝ }
+{
+    match r {
+        1 => n - ((n / 64) as u16 / 5625) as u32 * 360000,
+        10 => n - ((n / 32) as u16 / 1125) as u32 * 36000,
+        100 => n - ((n / 16) as u16 / 225) as u32 * 3600,
+        _ => n - ((n / 8) as u16 / 45) as u32 * 360,
+    }
+}
+
+// The way from z up to half a turn, with 360,000 steps more, whole turns at each resolution: so it is not below 0.
+fn way_up(z: i32, half: u32) -> u32
+    requires { ⌜ (half ≤ 180000) × (mag z ≤ 65536 + half) ⌝ }
+    ensures { λ t. ⌜ pos t ≡ pos (360000 + half) -ℤ z ⌝ }
+{
+    (((360000 + half) as i32) - z) as u32
+}
+
+// Moved by whole turns until it is above −180,000 / r and at most 180,000 / r: what is left of its way up.
+fn turned(z: i32, r: u16) -> i32
+    requires { ⌜ (within Resolution r ≡ true) × (mag z ≤ 65536 + 180000 / r) ⌝ }
+    ensures { λ t. ⌜ t ≡ turned r z ⌝ }
+{
+    let half = rounded(180000, r);
+    let left = rest(way_up(z, half), r);
+    (half as i32) - (left as i32)
+}
+
+// Where bit 1 of 6011 is set, the sum is first moved by whole turns.
+fn moved(z: i32, r: u16, operating: u16) -> i32
+    requires { ⌜ (within Resolution r ≡ true) × (mag z ≤ 65536 + 180000 / r) ⌝ }
+    ensures { λ t. ⌜ t ≡ moved r operating z ⌝ }
+{
+    if operating / 2 % 2 == 1 {
+        turned(z, r)
+    } else {
+        z
+    }
+}
+
 // Brought into −32,767 to 32,767: −32,768 is no angle.
 fn nearer(z: i32) -> i16
     ensures { λ t. ⌜ t ≡ nearer 32767 z ⌝ }
@@ -110,7 +155,8 @@ pub fn angle(m: i32, r: u16, operating: u16, offset: i16, differential: i16) -> 
     requires { ⌜ (within Resolution r ≡ true) × (inside m ≡ true) ⌝ }
     ensures { λ t. ⌜ t ≡ angle m r operating offset differential ⌝ }
 {
-    nearer(sum(m, r, operating, offset, differential))
+    let whole = sum(m, r, operating, offset, differential);
+    nearer(moved(whole, r, operating))
 }
 
 // What the PDO carries of an axis.

@@ -47,9 +47,10 @@ each-resolution P one ten hundred thousand r =
     let is : (n : ℕ) → P n → eqb r n ≡ true → P r = λ n p e. subst P (sym (eqb-true r n e)) p in
     either _ _ (either _ _ (either _ _ (is 1 one) (is 10 ten)) (is 100 hundred)) (is 1000 thousand)
 
--- a resolution divides
-pub resolution-above : (r : ℕ) → within Resolution r ≡ true → 0 < r
-resolution-above = each-resolution (λ r. 0 < r) (omega arith) (omega arith) (omega arith) (omega arith)
+-- behind 1, 10 and 100 only 1000 is left
+pub last-resolution : (r : ℕ) → within Resolution r ≡ true → (r ≡ 1 → ⊥) → (r ≡ 10 → ⊥) → (r ≡ 100 → ⊥) → r ≡ 1000
+last-resolution r w one ten hundred =
+    each-resolution (λ d. r ≡ d → r ≡ 1000) (λ e. absurd (one e)) (λ e. absurd (ten e)) (λ e. absurd (hundred e)) (λ e. e) r w refl
 
 -- an axis's last good reading
 pub inside-size : (m : ℤ) → inside m ≡ true → natAbs m ≤ 180000

@@ -25,7 +25,7 @@ high a r h = omega (arith, lt-div-mul-add {a = 2 * a + r} {b = 2 * r} (omega ari
 only-size : (a r k : ℕ) → 2 * (k * r) ≤ 2 * a + r → 2 * a + r < 2 * (k * r) + 2 * r → rounded a r ≡ k
 only-size a r k l h = div-eq-of-lt-le (2 * r) (omega arith) (omega arith)
 
-smaller : (a r : ℕ) → rounded a r ≤ a
+pub smaller : (a r : ℕ) → rounded a r ≤ a
 smaller a zero = omega (arith, div-zero (2 * a + 0))
 smaller a (suc r) =
     let below : rounded a (suc r) < suc a = div-lt-iff-lt-mul {k = 2 * suc r} {x = 2 * a + suc r} {y = suc a} (omega arith) .1 (omega arith) in
@@ -123,6 +123,10 @@ no-larger m r = rw (size-of m r) (smaller (natAbs m) r)
 
 most : (a r : ℕ) → a ≤ 180000 → within Resolution r ≡ true → rounded a r ≤ 180000 / r
 most a r h = each-resolution (λ d. rounded a d ≤ 180000 / d) (omega arith) (omega arith) (omega arith) (omega arith) r
+
+-- and half a turn is no matter of rounding
+pub half-turn : (r : ℕ) → within Resolution r ≡ true → rounded 180000 r ≡ 180000 / r
+half-turn = each-resolution (λ r. rounded 180000 r ≡ 180000 / r) refl refl refl refl
 
 pub q-most : (m : ℤ) (r operating : ℕ) → within Resolution r ≡ true → inside m ≡ true → natAbs (q m r operating) ≤ 180000 / r
 unfolding q

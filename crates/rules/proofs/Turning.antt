@@ -1,13 +1,12 @@
 -- The sum is moved by whole turns into the range of one turn, and to no other number; what is in that range stays; the range of the angle.
-use mathlib.Core.Path.{_≡_, refl, sym, _∙_, ap, subst}
-use mathlib.Core.Bool.{Bool, true, false, cond}
+use mathlib.Core.Path.{_≡_, refl, sym, _∙_, ap}
+use mathlib.Core.Bool.{Bool, true, false}
 use Prim.Native.Nat.{ℕ, zero, suc, _+_, _*_, _-_, _/_, _%_, _≤_, _<_}
 use native.Mathlib.Nat.{mod-add-div', mod-lt, mod-eq-of-lt, add-mul-mod-self-right}
 use native.Mathlib.Omega.{arith}
 use borrow.Author.Tests.{leb-true, le-leb, ltb-true, ltb-false, lt-ltb, le-ltb}
 use lib.Dec.{ltb}
 use lib.IntN.{ℤ, pos, negsuc, _+ℤ_, _-ℤ_, _*ℤ_, +ℤ-assoc, +ℤ-comm, +ℤ-idr, +ℤ-negℤ-cancel, -ℤ-+ℤ-cancel}
-use lib.Signed.{ltZ, leZ}
 use Rattle.laws.proofs.Bools.{cond-each}
 use Rattle.rules.proofs.Ranges.{each-resolution}
 use Rattle.rules.specs.declared.objects.Setting.the-variants.{Resolution}
@@ -17,11 +16,11 @@ use Rattle.rules.specs.Settings.{within}
 use Rattle.rules.specs.Turning.{InTurn, Turned}
 
 -- what lies between h and z in two parts, taken in the other order
+parts : (h z d w : ℤ) → h -ℤ z ≡ d +ℤ w → h ≡ z +ℤ w +ℤ d
+parts h z d w e = sym (-ℤ-+ℤ-cancel h z) ∙ ap (λ x. x +ℤ z) e ∙ +ℤ-comm (d +ℤ w) z ∙ ap (λ x. z +ℤ x) (+ℤ-comm d w) ∙ sym (+ℤ-assoc z w d)
+
 across : (h z d w : ℤ) → h -ℤ z ≡ d +ℤ w → h -ℤ d ≡ z +ℤ w
-across h z d w e =
-    let parts : h ≡ z +ℤ w +ℤ d =
-    sym (-ℤ-+ℤ-cancel h z) ∙ ap (λ x. x +ℤ z) e ∙ +ℤ-comm (d +ℤ w) z ∙ ap (λ x. z +ℤ x) (+ℤ-comm d w) ∙ sym (+ℤ-assoc z w d) in
-    ap (λ x. x -ℤ d) parts ∙ +ℤ-negℤ-cancel (z +ℤ w) d
+across h z d w e = ap (λ x. x -ℤ d) (parts h z d w e) ∙ +ℤ-negℤ-cancel (z +ℤ w) d
 
 there-and-back : (h t : ℤ) → h -ℤ (h -ℤ t) ≡ t
 there-and-back h t = across h t (h -ℤ t) (pos 0) (sym (+ℤ-idr (h -ℤ t))) ∙ +ℤ-idr t
@@ -31,16 +30,16 @@ pub at-least : (a b : ℕ) → b ≤ a → pos a -ℤ pos b ≡ pos (a - b)
 at-least a zero h = ap pos (omega arith)
 at-least a (suc b) h = simp (le-ltb a (suc b) h)
 
-pub less : (a b : ℕ) → a < b → pos a -ℤ pos b ≡ negsuc (b - suc a)
-less a zero h = absurd (omega arith)
-less a (suc b) h = simp (lt-ltb a (suc b) h)
+pub short : (a b : ℕ) → a < b → pos a -ℤ pos b ≡ negsuc (b - suc a)
+short a zero h = absurd (omega arith)
+short a (suc b) h = simp (lt-ltb a (suc b) h)
 
 -- whole turns and what is left make the number, and what is left is below a turn
 whole : (turn : ℕ) (z : ℤ) → 0 < turn → (k : ℤ) × (z ≡ pos (rest turn z) +ℤ k *ℤ pos turn)
 whole turn (pos n) h = (pos (n / turn), ap pos (sym (mod-add-div' n turn)))
 whole turn (negsuc n) h =
     let left = mod-lt n h in
-    let back = less (turn - suc (n % turn)) (suc (n / turn) * turn) (omega (arith, left)) in
+    let back = short (turn - suc (n % turn)) (suc (n / turn) * turn) (omega (arith, left)) in
     (negsuc (n / turn), sym (back ∙ ap negsuc (omega (arith, left, mod-add-div' n turn))))
 
 below-turn : (turn : ℕ) (z : ℤ) → 0 < turn → rest turn z < turn
@@ -51,35 +50,37 @@ below-turn turn (negsuc n) h = omega arith
 left-again : (turn b : ℕ) (k : ℤ) → b < turn → rest turn (pos b +ℤ k *ℤ pos turn) ≡ b
 left-again turn b (pos j) h = add-mul-mod-self-right b j turn ∙ mod-eq-of-lt h
 left-again turn b (negsuc j) h =
-    let short : suc j * turn - suc b ≡ (turn - suc b) + j * turn = omega arith in
-    let under : (suc j * turn - suc b) % turn ≡ turn - suc b =
-    ap (λ n. n % turn) short ∙ add-mul-mod-self-right (turn - suc b) j turn ∙ mod-eq-of-lt (omega arith) in
-    ap (rest turn) (less b (suc j * turn) (omega arith)) ∙ omega (arith, under)
+    let under : suc j * turn - suc b ≡ (turn - suc b) + j * turn = omega arith in
+    let left : (suc j * turn - suc b) % turn ≡ turn - suc b = ap (λ n. n % turn) under ∙ add-mul-mod-self-right (turn - suc b) j turn ∙ mod-eq-of-lt (omega arith) in
+    ap (rest turn) (short b (suc j * turn) (omega arith)) ∙ omega (arith, left)
 
 -- the way from a number of the range up to its end is below a turn, and what is so far below its end is in the range
-way : (half : ℕ) (t : ℤ) → 0 < half → ltZ (minus half) t ≡ true → leZ t (pos half) ≡ true → (b : ℕ) × (b < 2 * half) × (pos half -ℤ t ≡ pos b)
-way half (pos n) h e f = (half - n, omega arith, at-least half n (leb-true n half f))
-way (suc half) (negsuc n) h e f = (suc half + suc n, omega (arith, ltb-true n half e), refl)
-way zero (negsuc n) h e f = absurd (omega arith)
+way : (half : ℕ) (t : ℤ) → 0 < half → InTurn half t → (b : ℕ) × (b < 2 * half) × (pos half -ℤ t ≡ pos b)
+way half (pos n) h (e, f) = (half - n, omega arith, at-least half n (leb-true n half f))
+way (suc half) (negsuc n) h (e, f) = (suc half + suc n, omega (arith, ltb-true n half e), refl)
+way zero (negsuc n) h e = absurd (omega arith)
 
-far : (half d : ℕ) → half < d → d < 2 * half → (ltZ (minus half) (negsuc (d - suc half)) ≡ true) × (leZ (negsuc (d - suc half)) (pos half) ≡ true)
+far : (half d : ℕ) → half < d → d < 2 * half → InTurn half (negsuc (d - suc half))
 far (suc half) d a b = (lt-ltb (d - suc (suc half)) half (omega arith), refl)
 far zero d a b = absurd (omega arith)
 
-near : (half d : ℕ) → 0 < half → (ltZ (minus half) (pos (half - d)) ≡ true) × (leZ (pos (half - d)) (pos half) ≡ true)
+near : (half d : ℕ) → 0 < half → InTurn half (pos (half - d))
 near (suc half) d h = (refl, le-leb (suc half - d) (suc half) (omega arith))
 near zero d h = absurd (omega arith)
 
-reached : (half d : ℕ) (t : Bool) → ltb half d ≡ t → d < 2 * half → (ltZ (minus half) (pos half -ℤ pos d) ≡ true) × (leZ (pos half -ℤ pos d) (pos half) ≡ true)
-reached half d true e h = rw (less half d (ltb-true half d e)) (far half d (ltb-true half d e) h)
+reached : (half d : ℕ) (t : Bool) → ltb half d ≡ t → d < 2 * half → InTurn half (pos half -ℤ pos d)
+reached half d true e h = rw (short half d (ltb-true half d e)) (far half d (ltb-true half d e) h)
 reached half d false e h = rw (at-least half d (ltb-false half d e)) (near half d (omega arith))
 
--- a turn is two halves, and no resolution makes them 0
-two-halves : (r : ℕ) → within Resolution r ≡ true → 360000 / r ≡ 2 * (180000 / r)
+-- a turn is two halves, not 0 and at most 360,000
+pub two-halves : (r : ℕ) → within Resolution r ≡ true → 360000 / r ≡ 2 * (180000 / r)
 two-halves = each-resolution (λ r. 360000 / r ≡ 2 * (180000 / r)) refl refl refl refl
 
-some-turn : (r : ℕ) → within Resolution r ≡ true → 0 < 360000 / r
+pub some-turn : (r : ℕ) → within Resolution r ≡ true → 0 < 360000 / r
 some-turn = each-resolution (λ r. 0 < 360000 / r) (omega arith) (omega arith) (omega arith) (omega arith)
+
+pub most-turn : (r : ℕ) → within Resolution r ≡ true → 360000 / r ≤ 360000
+most-turn = each-resolution (λ r. 360000 / r ≤ 360000) (omega arith) (omega arith) (omega arith) (omega arith)
 
 -- the sum so moved is what the paper asks for
 pub turns : (r : ℕ) (z : ℤ) → within Resolution r ≡ true → Turned r z (turned r z)
@@ -88,24 +89,24 @@ turns r z w =
     let half = 180000 / r in
     let turn = 360000 / r in
     let left = rest turn (pos half -ℤ z) in
-    let parts = whole turn (pos half -ℤ z) (some-turn r w) in
-    let short : left < 2 * half = omega (arith, below-turn turn (pos half -ℤ z) (some-turn r w), two-halves r w) in
-    (reached half left _ refl short, (parts .0, across (pos half) z (pos left) (parts .0 *ℤ pos turn) (parts .1)))
+    let (k, up) = whole turn (pos half -ℤ z) (some-turn r w) in
+    let inside : left < 2 * half = omega (arith, below-turn turn (pos half -ℤ z) (some-turn r w), two-halves r w) in
+    (reached half left _ refl inside, (k, across (pos half) z (pos left) (k *ℤ pos turn) up))
 
 -- and no other number is
 pub only : (r : ℕ) (z t : ℤ) → within Resolution r ≡ true → Turned r z t → t ≡ turned r z
 unfolding turned
-only r z t w ((low, high), (k, by-turns)) =
+only r z t w (into, (k, by-turns)) =
     let half = 180000 / r in
     let turn = 360000 / r in
-    let (b, short, up) = way half t (omega (arith, some-turn r w, two-halves r w)) low high in
+    let (b, inside, up) = way half t (omega (arith, some-turn r w, two-halves r w)) into in
     let down : pos half -ℤ pos b ≡ t = ap (λ x. pos half -ℤ x) (sym up) ∙ there-and-back (pos half) t in
-    let parts = across (pos half) (pos b) z (k *ℤ pos turn) (down ∙ by-turns) in
-    let left : rest turn (pos half -ℤ z) ≡ b = ap (rest turn) parts ∙ left-again turn b k (omega (arith, two-halves r w)) in
+    let again = across (pos half) (pos b) z (k *ℤ pos turn) (down ∙ by-turns) in
+    let left : rest turn (pos half -ℤ z) ≡ b = ap (rest turn) again ∙ left-again turn b k (omega (arith, two-halves r w)) in
     sym (ap (λ n. pos half -ℤ pos n) left ∙ down)
 
 -- what is in the range stays
-pub stays : (r : ℕ) (z : ℤ) → within Resolution r ≡ true → InTurn r z → turned r z ≡ z
+pub stays : (r : ℕ) (z : ℤ) → within Resolution r ≡ true → InTurn (180000 / r) z → turned r z ≡ z
 stays r z w h = sym (only r z z w (h, (pos 0, sym (ap (λ n. z +ℤ pos n) (omega arith) ∙ +ℤ-idr z))))
 
 -- with bit 1 clear nothing moves

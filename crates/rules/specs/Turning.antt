@@ -6,10 +6,10 @@ use lib.IntN.{ℤ, pos, _+ℤ_, _*ℤ_}
 use lib.Signed.{ltZ, leZ}
 use Rattle.rules.specs.Numbers.{minus}
 
--- above −180,000 / r and at most 180,000 / r
+-- above −half and at most half
 abbrev pub InTurn : ℕ → ℤ → Type 0
-InTurn r t = (ltZ (minus (180000 / r)) t ≡ true) × (leZ t (pos (180000 / r)) ≡ true)
+InTurn half t = (ltZ (minus half) t ≡ true) × (leZ t (pos half) ≡ true)
 
--- t is z moved by k whole turns, for some k, and lies in that range
+-- t is above −180,000 / r and at most 180,000 / r, and z moved by k whole turns for some k
 abbrev pub Turned : ℕ → ℤ → ℤ → Type 0
-Turned r z t = InTurn r t × ((k : ℤ) × (t ≡ z +ℤ k *ℤ pos (360000 / r)))
+Turned r z t = InTurn (180000 / r) t × ((k : ℤ) × (t ≡ z +ℤ k *ℤ pos (360000 / r)))

@@ -1,16 +1,14 @@
 -- `rounded` meets its contract: half of a resolution is added, and its own divisor cuts.
-use mathlib.Core.Path.{_≡_, refl}
+use mathlib.Core.Path.{_≡_}
 use native.Mathlib.Omega.{arith}
 use borrow.Author.Needs.{needs}
-use Rattle.rules.proofs.Ranges.{each-resolution}
+use Rattle.rules.proofs.Ranges.{last-resolution}
 use Rattle.angle.proofs.rounded.Statement.{statement}
 use Rattle.angle.proofs.rounded.Tie as tie
 
 -- the last divisor serves 1000 alone
 last : (c : tie.At-match-rest) → c .before .args .r ≡ 1000
-last c =
-    let r = c .before .args .r in
-    each-resolution (λ d. r ≡ d → r ≡ 1000) (λ e. omega arith) (λ e. omega arith) (λ e. omega arith) (λ e. e) r (c .before .pre .0) refl
+last c = last-resolution (c .before .args .r) (c .before .pre .0) (c .match .rest .0 .0 .1) (c .match .rest .0 .1) (c .match .rest .1)
 
 pub rounded-spec : {M : Type 1} → statement M
 rounded-spec =

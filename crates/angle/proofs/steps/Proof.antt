@@ -9,8 +9,8 @@ use mir.Syntax.{w32}
 use mir.Val.{SFits, toZ}
 use Rattle.laws.proofs.Signed.{mag-neg, minus}
 use Rattle.rules.proofs.Ranges.{inside-size}
+use Rattle.rules.proofs.Rounding.{smaller}
 use Rattle.rules.specs.Angle.{rounded, steps}
-use Rattle.angle.proofs.Magnitude.{rounded-small}
 use Rattle.angle.proofs.steps.Statement.{statement}
 use Rattle.angle.proofs.steps.Tie as tie
 
@@ -30,7 +30,7 @@ whole c = simp (size-is (c .before)) at (c .rounded .ensures)
 small : (c : tie.After-rounded) → c .rounded .result ≤ 180000
 small c =
     let s = c .before .before in
-    omega (arith, whole c, rounded-small (natAbs (s .args .m)) (s .args .r), inside-size (s .args .m) (s .pre .1))
+    omega (arith, whole c, smaller (natAbs (s .args .m)) (s .args .r), inside-size (s .args .m) (s .pre .1))
 
 read : (c : tie.After-rounded) → toZ w32 (c .rounded .result) ≡ pos (c .rounded .result)
 read c = toZ-pos w32 (omega (arith, small c))
