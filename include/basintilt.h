@@ -154,9 +154,10 @@ struct basintilt_errors {
     uint16_t codes[BASINTILT_MOST_ERRORS];
 };
 
-/* An axis and its last good reading m, in thousandths of a degree. Its angle is m over the resolution, rounded to the nearest whole number,
- * halves away from zero; then bit 0 of operating turns the sign, bit 1 adds offset and differential,
- * and what comes out is brought into -32767 to 32767. */
+/* An axis and its last good reading m, in thousandths of a degree. Its angle is m over the resolution r, rounded to the nearest whole number,
+ * halves away from zero, with the other sign where bit 0 of operating is set. Where bit 1 is set, offset and differential are added, and the sum
+ * is moved by whole turns (360000 / r) until it is above -180000 / r and at most 180000 / r. What comes out, with bit 1 or without,
+ * is brought into -32767 to 32767. */
 struct basintilt_reading {
     uint32_t state;
     int32_t m;

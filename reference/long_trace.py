@@ -878,6 +878,67 @@ def near_level(t):
         t.read(1, index)
 
 
+def opposite_offsets(t, offset, differential):
+    """A preset at level and without a differential is the offset; Y gets the same numbers."""
+    opposite_readings(t, 0)
+    for value, index in ((0, 4), (offset, 2), (differential, 4)):
+        t.write(0, 0x6010 + index, 0, 2, value & 0xFFFF)
+        t.write(1, 0x6020 + index, 0, 2, value & 0xFFFF)
+
+
+def turned_sum(t, resolution, operating, offset, differential, value):
+    """Y has the opposite reading and the other sign, so that both axes have one sum."""
+    t.write(0, 0x6000, 0, 2, resolution)
+    operate(t, operating, operating ^ 1)
+    opposite_offsets(t, offset, differential)
+    opposite_readings(t, value)
+    t.sync()
+    t.read(0, 0x6010)
+    t.read(1, 0x6020)
+
+
+def turned_ends(t, resolution):
+    """Both ends of the range, the next number above each, and the farthest sums; bit 1 set or not."""
+    low, high = -180000, 180000
+    for operating, offset, differential, value in (
+            (2, 0, 0, low), (2, 1, 0, low), (2, 0, 0, high), (2, 1, 0, high), (3, 0, 0, high),
+            (0, 1, 0, low), (2, 32767, 32767, high), (2, -32768, -32768, low),
+            (3, 32767, 32767, low), (1, -32768, -32768, high)):
+        turned_sum(t, resolution, operating, offset, differential, value)
+
+
+def turned_presets(t):
+    """Neither a preset past half a turn nor its offset is turned."""
+    for resolution, value, preset in (
+            (10, 12345, 0), (10, 0, 20000), (10, -170000, 10000), (10, -180000, 20000),
+            (10, -180000, 0), (100, 0, 1801), (1000, 1000, -32767), (1000, -180000, 32767)):
+        t.write(0, 0x6000, 0, 2, resolution)
+        opposite_offsets(t, 0, 0)
+        opposite_presets(t, value, preset)
+        t.sync()
+        for index in (0x6010, 0x6012, 0x6020, 0x6022):
+            t.read(1, index)
+
+
+def turning_over(t):
+    """Sums past half a turn under bit 1 of 6011: at each resolution, under presets, after a reset."""
+    t.power_on(0x1D)
+    t.pdo_type(1)
+    t.start()
+    for resolution in (1, 10, 100, 1000):
+        turned_ends(t, resolution)
+    turned_sum(t, 10, 2, 9000, 9001, 0)
+    turned_sum(t, 10, 2, 2000, 0, 170000)
+    turned_sum(t, 10, 2, 0, 0, -179995)
+    operate(t, 2, 2)
+    turned_presets(t)
+    t.write(0, 0x1010, 1, 4, SAVE)
+    t.network(0x81)
+    opposite_readings(t, 180000)
+    for index in (0x6010, 0x6011, 0x6013, 0x6020, 0x6021, 0x6023):
+        t.read(1, index)
+
+
 def random_request(t, chance):
     channel = chance.number(2)
     kind = chance.number(20)
@@ -955,7 +1016,7 @@ def main():
                     saves_until_full, readings, angles, zeros, ticks, writes_between_ticks, syncs,
                     frame_lengths, malformed_lines, lss_switches, lss_selections,
                     lss_between_matches, lss_numbers, lss_resets, lss_outside_stopped, lss_stores,
-                    near_level):
+                    near_level, turning_over):
         section(t)
     chance = Chance(0x54494C54)
     t.power_on(0x01)

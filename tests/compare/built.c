@@ -4,6 +4,7 @@
 #include "built_angles.h"
 #include "built_lss.h"
 #include "built_origins.h"
+#include "built_turns.h"
 #include "happenings.h"
 #include "requests.h"
 #include "steps.h"
@@ -216,5 +217,5 @@ bool built_cases(uint32_t one_in_so_many)
     stride = one_in_so_many;
     return every_journal() && every_bit_and_stop() && every_number() && every_query() && every_length() && every_node()
            && every_head() && every_command() && every_first_byte() && every_object() && every_value() && every_type()
-           && every_field() && built_lss_cases() && built_angle_cases(stride) && built_origin_cases(stride);
+           && every_field() && built_lss_cases() && built_angle_cases(stride) && built_turn_cases() && built_origin_cases(stride);
 }

@@ -46,13 +46,19 @@ static void count_edge(int32_t m, unsigned resolution)
     }
 }
 
-static void count_use(const struct basintilt_device *device, unsigned axis, unsigned use)
+static unsigned resolution_of(const struct basintilt_device *device)
 {
-    int32_t m = reading_at(device, axis)->m;
     unsigned resolution = 0;
     while (resolution + 1 < RESOLUTIONS && resolutions[resolution] != device->running.resolution) {
         resolution++;
     }
+    return resolution;
+}
+
+static void count_use(const struct basintilt_device *device, unsigned axis, unsigned use)
+{
+    int32_t m = reading_at(device, axis)->m;
+    unsigned resolution = resolution_of(device);
     unsigned kind = SIGNS * ((use * AXES + axis) * RESOLUTIONS + resolution) + (m < 0);
     counts.roundings[kind * PLACES + round_axis(device, axis).place]++;
     count_edge(m, resolution);
@@ -74,8 +80,10 @@ static void count_sum(const struct basintilt_device *device, unsigned axis)
 static void count_shown(const struct basintilt_device *device, unsigned axis, unsigned use)
 {
     if (reading_at(device, axis)->state == BASINTILT_GOOD_AXIS) {
+        unsigned resolution = resolution_of(device);
         count_use(device, axis, use);
         count_sum(device, axis);
+        count_turn(settings_at(device, axis), round_axis(device, axis).nearest, resolution, (use * AXES + axis) * RESOLUTIONS + resolution);
     }
 }
 
@@ -88,8 +96,10 @@ static bool fits(int32_t offset)
 static void count_zero(const struct basintilt_device *lent, unsigned axis, const uint8_t *request)
 {
     struct rounded rounded = round_axis(lent, axis);
-    int32_t wanted = (int16_t)(request[4] | request[5] << 8) - settings_at(lent, axis)->differential;
+    int32_t preset = (int16_t)(request[4] | request[5] << 8);
+    int32_t wanted = preset - settings_at(lent, axis)->differential;
     count_use(lent, axis, IN_PRESET);
+    count_turned_preset(preset, wanted - rounded.nearest, resolution_of(lent), axis);
     if (fits(wanted - rounded.nearest) != fits(wanted - rounded.cut)) {
         counts.zeros_by_rounding[2 * axis + fits(wanted - rounded.nearest)]++;
     }

@@ -34,6 +34,14 @@ enum { AXES = 2, SIGNS = 2 };
 /* A step's first reading and the last before it, by the ten degrees that they stand in. */
 enum { LAST_BEFORE, FIRST_OF_STEP, EDGES, TEN_DEGREES = 10000, TENS = BASINTILT_FARTHEST / TEN_DEGREES };
 
+/* What shows an angle: the PDO or a read, of an axis, at a resolution. */
+enum { SHOWN = 2 * AXES * RESOLUTIONS };
+
+/* How far a sum was moved, where it stood beside the ends of the range, and presets that a turn would change. */
+enum { NOT_MOVED, ONE_TURN, SOME_TURNS, MOST_TURNS, MOVED_KINDS };
+enum { LOWER_END, ABOVE_LOWER_END, UPPER_END, ABOVE_UPPER_END, TURN_ENDS };
+enum { PRESET_PAST_TURN, OFFSET_PAST_TURN, OFFSET_TOO_LONG, PRESET_KINDS };
+
 enum { LSS_MODES = 2, NETWORK_STATES = 3, LSS_HEADS = 10, BYTE_VALUES = 256, MATCHES = 2 * IDENTITY_NUMBERS * (BASINTILT_MOST_MATCHES + 1) };
 
 enum {
@@ -158,6 +166,12 @@ struct counts {
     uint64_t step_edges[RESOLUTIONS * SIGNS * EDGES * TENS];
     uint64_t sums_at_halves[AXES * SIGNS];
     uint64_t zeros_by_rounding[AXES * 2];
+    uint64_t turns[SHOWN * SIGNS * MOVED_KINDS];
+    uint64_t turn_ends[SHOWN * SIGNS * TURN_ENDS];
+    uint64_t offset_ends[SHOWN * 4];
+    uint64_t turned_and_clamped[SHOWN * SIGNS];
+    uint64_t unturned[SHOWN * SIGNS];
+    uint64_t turned_presets[AXES * RESOLUTIONS * PRESET_KINDS];
     uint64_t bringings[SETTING_PAIRS * BRINGINGS];
     uint64_t bringers[SETTING_PAIRS * BLOCK_CHANNELS * BLOCK_KINDS];
     uint64_t journals_asked[SETTING_PAIRS * ASKED_JOURNALS];
@@ -171,6 +185,7 @@ extern const uint32_t abort_codes[ABORTS];
 extern const uint8_t reply_firsts[REPLIES];
 
 extern const uint8_t leaving_commands[LEAVING_COMMANDS];
+extern const int32_t most_turns[RESOLUTIONS];
 
 void count_call(const struct pair *pair, const struct call *call);
 
@@ -183,6 +198,10 @@ void count_lss(const struct pair *pair, const struct call *call);
 /* What a frame of an answer says of an angle. */
 void count_angles(const struct pair *pair, const struct call *call, const struct basintilt_frame *frame);
 
+/* What an angle that is shown says of its sum, and a preset that was judged. */
+void count_turn(const struct basintilt_axis_settings *settings, int32_t q, unsigned resolution, unsigned shown);
+void count_turned_preset(int32_t preset, int32_t offset, unsigned resolution, unsigned axis);
+
 /* What was found of a setting's origin, and in which journal. */
 void count_origin(const struct pair *pair, const struct call *call);
 
@@ -193,6 +212,7 @@ void count_block(const struct pair *pair, const struct call *call);
 bool show_counts(void);
 bool show_lss_counts(void);
 bool show_angle_counts(void);
+bool show_turn_counts(void);
 bool show_origin_counts(void);
 
 #endif

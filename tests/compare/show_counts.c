@@ -134,5 +134,6 @@ bool show_counts(void)
     bool all = show_tallies(tallies, sizeof tallies / sizeof tallies[0]);
     all = show_lss_counts() && all;
     all = show_angle_counts() && all;
+    all = show_turn_counts() && all;
     return show_origin_counts() && all;
 }

@@ -5,7 +5,7 @@ ghost use Prim.Native.Nat.{_+_, _/_, _%_, _≤_};
 ghost use lib.IntN.{pos, natAbs, _-ℤ_};
 ghost use lib.Signed.{mag};
 ghost use Rattle.rules.specs.declared.objects.Setting.the-variants.{Resolution};
-ghost use Rattle.rules.specs.Angle.{rounded, steps, q, nearer, sum, turned, moved, angle, shown, offset, zeroed};
+ghost use Rattle.rules.specs.Angle.{rounded, steps, q, nearer, sum, turned, turnedIfShifted, angle, shown, offset, zeroed};
 ghost use Rattle.rules.specs.Ranges.{inside, axisOk};
 ghost use Rattle.rules.specs.Settings.{within};
 use rules::aborts;
@@ -115,7 +115,7 @@ fn way_up(z: i32, half: u32) -> u32
     (((360000 + half) as i32) - z) as u32
 }
 
-// Moved by whole turns until it is above −180,000 / r and at most 180,000 / r: what is left of its way up.
+// Moved by whole turns until it is above −180,000 / r and at most 180,000 / r: as far below that as whole turns leave of the way up.
 fn turned(z: i32, r: u16) -> i32
     requires { ⌜ (within Resolution r ≡ true) × (mag z ≤ 65536 + 180000 / r) ⌝ }
     ensures { λ t. ⌜ t ≡ turned r z ⌝ }
@@ -126,9 +126,9 @@ fn turned(z: i32, r: u16) -> i32
 }
 
 // Where bit 1 of 6011 is set, the sum is first moved by whole turns.
-fn moved(z: i32, r: u16, operating: u16) -> i32
+fn turned_if_shifted(z: i32, r: u16, operating: u16) -> i32
     requires { ⌜ (within Resolution r ≡ true) × (mag z ≤ 65536 + 180000 / r) ⌝ }
-    ensures { λ t. ⌜ t ≡ moved r operating z ⌝ }
+    ensures { λ t. ⌜ t ≡ turnedIfShifted r operating z ⌝ }
 {
     if operating / 2 % 2 == 1 {
         turned(z, r)
@@ -156,7 +156,7 @@ pub fn angle(m: i32, r: u16, operating: u16, offset: i16, differential: i16) -> 
     ensures { λ t. ⌜ t ≡ angle m r operating offset differential ⌝ }
 {
     let whole = sum(m, r, operating, offset, differential);
-    nearer(moved(whole, r, operating))
+    nearer(turned_if_shifted(whole, r, operating))
 }
 
 // What the PDO carries of an axis.

@@ -10,7 +10,7 @@ use lib.IntN.{ℤ, pos, negsuc, _+ℤ_, _-ℤ_, _*ℤ_, +ℤ-assoc, +ℤ-comm, +
 use Rattle.laws.proofs.Bools.{cond-each}
 use Rattle.rules.proofs.Ranges.{each-resolution}
 use Rattle.rules.specs.declared.objects.Setting.the-variants.{Resolution}
-use Rattle.rules.specs.Angle.{shifted, q, nearer, sum, rest, turned, moved, angle}
+use Rattle.rules.specs.Angle.{shifted, q, nearer, sum, rest, turned, turnedIfShifted, angle}
 use Rattle.rules.specs.Numbers.{minus, betweenℤ}
 use Rattle.rules.specs.Settings.{within}
 use Rattle.rules.specs.Turning.{InTurn, Turned}
@@ -123,4 +123,4 @@ brought-in (negsuc n) =
 
 pub angle-range : (m : ℤ) (r operating : ℕ) (offset differential : ℤ) → betweenℤ (minus 32767) (pos 32767) (angle m r operating offset differential) ≡ true
 unfolding angle
-angle-range m r operating offset differential = brought-in (moved r operating (sum m r operating offset differential))
+angle-range m r operating offset differential = brought-in (turnedIfShifted r operating (sum m r operating offset differential))

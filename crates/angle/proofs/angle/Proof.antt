@@ -18,8 +18,8 @@ whole c =
 sum-requires : tie.Need-sum-requires
 sum-requires c κs = search needs
 
-moved-requires : tie.Need-moved-requires
-moved-requires c κs =
+turned-if-shifted-requires : tie.Need-turned-if-shifted-requires
+turned-if-shifted-requires c κs =
     let s = c .before in
     let a = s .args in
     (s .pre .0, simp (whole c) (sum-small (a .m) (a .r) (a .operating) (a .offset) (a .differential) (s .pre .0) (s .pre .1) (s .fits .offset) (s .fits .differential)))
@@ -30,9 +30,9 @@ nearer-requires c κs = search needs
 returns : tie.Need-returns
 unfolding angle
 returns c =
-    let z = c .before .moved in
+    let z = c .before .turned-if-shifted in
     let brought = simp (ok w32 (z .result) (z .ok)) at (c .nearer .ensures) in
     ok w16 (c .nearer .result) (c .nearer .ok) ∙ brought ∙ simp (z .ensures, whole (c .before .before))
 
 pub angle-spec : {M : Type 1} → statement M
-angle-spec = tie.close (tie.spec sum-requires moved-requires nearer-requires returns)
+angle-spec = tie.close (tie.spec sum-requires turned-if-shifted-requires nearer-requires returns)

@@ -1,11 +1,11 @@
--- `moved` meets its contract: bit 1 alone decides.
+-- `turned_if_shifted` meets its contract: bit 1 alone decides.
 use borrow.Author.Needs.{needs}
 use borrow.Author.Tests.{eq-eqb, ne-eqb}
 use mir.Facts.{toZ-ofZ}
 use mir.Syntax.{w32}
 use Rattle.laws.proofs.Signed.{ok}
-use Rattle.angle.proofs.moved.Statement.{statement}
-use Rattle.angle.proofs.moved.Tie as tie
+use Rattle.angle.proofs.turned_if_shifted.Statement.{statement}
+use Rattle.angle.proofs.turned_if_shifted.Tie as tie
 
 turned-requires : tie.Need-turned-requires
 turned-requires c κs = search needs
@@ -18,5 +18,5 @@ returns c =
 returns-2 : tie.Need-returns-2
 returns-2 c = simp (toZ-ofZ (c .before .fits .z), ne-eqb _ _ (c .if1 .left))
 
-pub moved-spec : {M : Type 1} → statement M
-moved-spec = tie.close (tie.spec turned-requires returns returns-2)
+pub turned-if-shifted-spec : {M : Type 1} → statement M
+turned-if-shifted-spec = tie.close (tie.spec turned-requires returns returns-2)
