@@ -15,6 +15,8 @@
 #define STOP NETWORK(0x02)
 #define CONFIGURATION LSS(0x04, 1)
 #define HEARTBEAT_OF_25 REQUEST(0x2B, 0x17, 0x10, 0, 25, 0, 0, 0)
+#define OPERATING_OF_2 REQUEST(0x2F, 0x11, 0x60, 0, 2, 0, 0, 0)
+#define DIFFERENTIAL_OF_32767 REQUEST(0x2B, 0x14, 0x60, 0, 0xFF, 0x7F, 0, 0)
 #define READ_STRING REQUEST(0x40, 0x08, 0x10, 0, 0, 0, 0, 0)
 
 const struct bench_case bench_cases[] = {
@@ -28,6 +30,7 @@ const struct bench_case bench_cases[] = {
     { "NMT 82h", 0, 0, { { 0 } }, NETWORK(0x82) },
     { "read 1000", 0, 0, { { 0 } }, REQUEST(0x40, 0x00, 0x10, 0, 0, 0, 0, 0) },
     { "read 6010", 0, 1, { READING(12345) }, REQUEST(0x40, 0x10, 0x60, 0, 0, 0, 0, 0) },
+    { "read 6010, turned", 0, 3, { READING(12345), OPERATING_OF_2, DIFFERENTIAL_OF_32767 }, REQUEST(0x40, 0x10, 0x60, 0, 0, 0, 0, 0) },
     { "read 2101", 0, 0, { { 0 } }, REQUEST(0x40, 0x01, 0x21, 0, 0, 0, 0, 0) },
     { "read the string", 0, 0, { { 0 } }, READ_STRING },
     { "next segment", 0, 1, { READ_STRING }, REQUEST(0x60, 0, 0, 0, 0, 0, 0, 0) },

@@ -9,7 +9,7 @@ use Rattle.laws.proofs.Bools.{no, both}
 use Rattle.rules.specs.declared.events.Frame.{Frame}
 use Rattle.rules.specs.declared.objects.Channel.the-variants.{One, Two}
 use Rattle.rules.specs.declared.settings.Settings.{Settings}
-use Rattle.rules.specs.Angle.{steps, q, sum, angle, offset, zeroed}
+use Rattle.rules.specs.Angle.{steps, q, sum, turned, angle, offset, zeroed}
 use Rattle.rules.specs.Events.{NotRefused, event}
 use Rattle.rules.specs.Numbers.{twoAt, fourAt}
 use Rattle.rules.specs.Objects.{find}
@@ -88,5 +88,5 @@ unfolding device inRange inTable errorsOk axisOk
 fine = (refl, refl)
 
 pub no-line-idle : NoLineIdle
-unfolding endIn answersIn device commandOf twoAt fourAt find lengthCheck roomCheck reply angleRead entryRead settingValue angle sum q steps zeroed offset
+unfolding endIn answersIn device commandOf twoAt fourAt find lengthCheck roomCheck reply angleRead entryRead settingValue angle turned sum q steps zeroed offset
 no-line-idle = each (differs device) (OrderMatters device) (order-matters device fine) allPairs refl
