@@ -1,8 +1,8 @@
 /* Built cases of the angle: readings at and beside halves, in the PDO, in reads, in presets and in sums; and every step's first reading. */
 #include "built_angles.h"
 
+#include "axes.h"
 #include "happenings.h"
-#include "requests.h"
 #include "settings.h"
 #include "steps.h"
 
@@ -11,34 +11,10 @@ enum { HALVES = 4 };
 /* Presets on both sides of zero and at the ends of 16 bits, and the differentials beside them. */
 static const int16_t presets[][2] = {{0, 0}, {3, 2}, {-3, -2}, {INT16_MAX, 0}, {INT16_MIN, 0}};
 
-/* A fresh sensor that shows both axes at each SYNC. */
-static bool showing_sensor(void)
-{
-    return fresh_sensor() && serve(0, 0x2F, 0x1800, 2, 1);
-}
-
-/* The same number to X's object and to Y's, and a read of both. */
-static bool set_both(uint32_t index, uint8_t first, int32_t value)
-{
-    uint32_t number = (uint16_t)value;
-    return serve(0, first, index, 0, number) && serve(1, first, index + 0x10, 0, number);
-}
-
-static bool read_both(uint32_t index)
-{
-    return serve(1, READS, index, 0, 0) && serve(0, READS, index + 0x10, 0, 0);
-}
-
-/* The axes get opposite readings, and both are shown. */
-static bool show_reading(int32_t m)
-{
-    return make_event(reading_of(BASINTILT_READING_X, m)) && make_event(reading_of(BASINTILT_READING_Y, -m)) && make_event(sync_frame());
-}
-
 /* Both are shown, read and taken as zeros, and the offsets stay for the reading that follows. */
 static bool use_reading(int32_t m, int32_t preset)
 {
-    return show_reading(m) && read_both(0x6010) && set_both(0x6012, 0x2B, preset) && read_both(0x6013) && make_event(sync_frame());
+    return show_reading(m) && read_both(0x6010) && write_both(0x6012, 0x2B, preset, preset) && read_both(0x6013) && make_event(sync_frame());
 }
 
 /* Halves on both sides of zero, the next thousandths beside them, and the ends of the readings. */
@@ -76,8 +52,9 @@ bool built_angle_cases(uint32_t stride)
     for (uint32_t i = 0; i < 4 * RESOLUTIONS * rows && same; i++) {
         const int16_t *row = presets[i / 4 / RESOLUTIONS];
         int32_t resolution = resolutions[i / 4 % RESOLUTIONS];
-        same = serve(0, 0x2B, 0x6000, 0, (uint32_t)resolution) && set_both(0x6011, 0x2F, (int32_t)(i % 4)) && set_both(0x6014, 0x2B, row[1])
-               && every_half(resolution, row[0]);
+        int32_t operating = (int32_t)(i % 4);
+        same = serve(0, 0x2B, 0x6000, 0, (uint32_t)resolution) && write_both(0x6011, 0x2F, operating, operating)
+               && write_both(0x6014, 0x2B, row[1], row[1]) && every_half(resolution, row[0]);
     }
     for (uint32_t i = 1; i < RESOLUTIONS && same; i++) {
         same = every_step(resolutions[i], (int32_t)stride);

@@ -1,8 +1,7 @@
 /* Built cases of turning: sums at both ends of the range and whole turns away, offsets at the ends of 16 bits, and presets past half a turn. */
 #include "built_turns.h"
 
-#include "happenings.h"
-#include "requests.h"
+#include "axes.h"
 #include "settings.h"
 #include "steps.h"
 
@@ -13,33 +12,23 @@ static int32_t brought_into(int32_t low, int32_t high, int32_t number)
     return number < low ? low : number > high ? high : number;
 }
 
-static bool write_both(uint32_t index, uint8_t first, int32_t of_x, int32_t of_y)
-{
-    return serve(0, first, index, 0, (uint16_t)of_x) && serve(1, first, index + 0x10, 0, (uint16_t)of_y);
-}
-
 /* Y gets the opposite reading and the other sign: both axes have one sum. */
 static bool turn_sensor(int32_t resolution, int32_t operating)
 {
-    return fresh_sensor() && serve(0, 0x2F, 0x1800, 2, 1) && serve(0, 0x2B, 0x6000, 0, (uint32_t)resolution)
+    return showing_sensor() && serve(0, 0x2B, 0x6000, 0, (uint32_t)resolution)
            && write_both(0x6011, 0x2F, operating, operating ^ 1);
-}
-
-static bool read_axes(int32_t m)
-{
-    return make_event(reading_of(BASINTILT_READING_X, m)) && make_event(reading_of(BASINTILT_READING_Y, -m));
 }
 
 /* A preset at level and without a differential is the offset. */
 static bool set_offsets(int32_t offset, int32_t differential)
 {
-    return read_axes(0) && write_both(0x6014, 0x2B, 0, 0) && write_both(0x6012, 0x2B, offset, offset)
+    return take_reading(0) && write_both(0x6014, 0x2B, 0, 0) && write_both(0x6012, 0x2B, offset, offset)
            && write_both(0x6014, 0x2B, differential, differential);
 }
 
 static bool show_axes(int32_t m)
 {
-    return read_axes(m) && make_event(sync_frame()) && serve(0, READS, 0x6010, 0, 0) && serve(1, READS, 0x6020, 0, 0);
+    return show_reading(m) && read_both(0x6010);
 }
 
 /* A sum from as much of a reading as there is, then of the offset, then of the differential. */
