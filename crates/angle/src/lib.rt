@@ -93,8 +93,7 @@ fn sum(m: i32, r: u16, operating: u16, offset: i16, differential: i16) -> i32
     }
 }
 
-// What whole turns leave of n steps: a turn is 360000, 36000, 3600 or 360 of them. Behind its power of two 16 bits are enough, and of 16 bits
-// a fixed divisor is a product on every core.
+// What whole turns leave of n steps: behind a turn's power of two 16 bits are enough, and of 16 bits a fixed divisor is a product on every core.
 fn rest(n: u32, r: u16) -> u32
     requires { ⌜ (within Resolution r ≡ true) × (n ≤ 360000 + 65537 + 360000 / r) ⌝ }
     ensures { λ t. ⌜ t ≡ n % (360000 / r) ⌝ }

@@ -4,10 +4,11 @@ use mathlib.Core.Bool.{Bool, true, false}
 use Prim.Native.Nat.{ℕ, zero, suc, _+_, _*_, _-_, _/_, _%_, _≤_, _<_}
 use native.Mathlib.Nat.{mod-add-div', mod-lt, mod-eq-of-lt, add-mul-mod-self-right}
 use native.Mathlib.Omega.{arith}
-use borrow.Author.Tests.{leb-true, le-leb, ltb-true, ltb-false, lt-ltb, le-ltb}
+use borrow.Author.Tests.{leb-true, le-leb, ltb-true, ltb-false, lt-ltb}
 use lib.Dec.{ltb}
 use lib.IntN.{ℤ, pos, negsuc, _+ℤ_, _-ℤ_, _*ℤ_, +ℤ-assoc, +ℤ-comm, +ℤ-idr, +ℤ-negℤ-cancel, -ℤ-+ℤ-cancel}
 use Rattle.laws.proofs.Bools.{cond-each}
+use Rattle.laws.proofs.Signed.{taken-within, taken-beyond}
 use Rattle.rules.proofs.Ranges.{each-resolution}
 use Rattle.rules.specs.declared.objects.Setting.the-variants.{Resolution}
 use Rattle.rules.specs.Angle.{shifted, q, nearer, sum, rest, turned, turnedIfShifted, angle}
@@ -25,21 +26,12 @@ across h z d w e = ap (λ x. x -ℤ d) (parts h z d w e) ∙ +ℤ-negℤ-cancel 
 there-and-back : (h t : ℤ) → h -ℤ (h -ℤ t) ≡ t
 there-and-back h t = across h t (h -ℤ t) (pos 0) (sym (+ℤ-idr (h -ℤ t))) ∙ +ℤ-idr t
 
--- a natural number less another, by the larger one
-pub at-least : (a b : ℕ) → b ≤ a → pos a -ℤ pos b ≡ pos (a - b)
-at-least a zero h = ap pos (omega arith)
-at-least a (suc b) h = simp (le-ltb a (suc b) h)
-
-pub short : (a b : ℕ) → a < b → pos a -ℤ pos b ≡ negsuc (b - suc a)
-short a zero h = absurd (omega arith)
-short a (suc b) h = simp (lt-ltb a (suc b) h)
-
 -- whole turns and what is left make the number, and what is left is below a turn
 whole : (turn : ℕ) (z : ℤ) → 0 < turn → (k : ℤ) × (z ≡ pos (rest turn z) +ℤ k *ℤ pos turn)
 whole turn (pos n) h = (pos (n / turn), ap pos (sym (mod-add-div' n turn)))
 whole turn (negsuc n) h =
     let left = mod-lt n h in
-    let back = short (turn - suc (n % turn)) (suc (n / turn) * turn) (omega (arith, left)) in
+    let back = taken-beyond (turn - suc (n % turn)) (suc (n / turn) * turn) (omega (arith, left)) in
     (negsuc (n / turn), sym (back ∙ ap negsuc (omega (arith, left, mod-add-div' n turn))))
 
 below-turn : (turn : ℕ) (z : ℤ) → 0 < turn → rest turn z < turn
@@ -52,11 +44,11 @@ left-again turn b (pos j) h = add-mul-mod-self-right b j turn ∙ mod-eq-of-lt h
 left-again turn b (negsuc j) h =
     let under : suc j * turn - suc b ≡ (turn - suc b) + j * turn = omega arith in
     let left : (suc j * turn - suc b) % turn ≡ turn - suc b = ap (λ n. n % turn) under ∙ add-mul-mod-self-right (turn - suc b) j turn ∙ mod-eq-of-lt (omega arith) in
-    ap (rest turn) (short b (suc j * turn) (omega arith)) ∙ omega (arith, left)
+    ap (rest turn) (taken-beyond b (suc j * turn) (omega arith)) ∙ omega (arith, left)
 
 -- the way from a number of the range up to its end is below a turn, and what is so far below its end is in the range
 way : (half : ℕ) (t : ℤ) → 0 < half → InTurn half t → (b : ℕ) × (b < 2 * half) × (pos half -ℤ t ≡ pos b)
-way half (pos n) h (e, f) = (half - n, omega arith, at-least half n (leb-true n half f))
+way half (pos n) h (e, f) = (half - n, omega arith, taken-within half n (leb-true n half f))
 way (suc half) (negsuc n) h (e, f) = (suc half + suc n, omega (arith, ltb-true n half e), refl)
 way zero (negsuc n) h e = absurd (omega arith)
 
@@ -69,8 +61,8 @@ near (suc half) d h = (refl, le-leb (suc half - d) (suc half) (omega arith))
 near zero d h = absurd (omega arith)
 
 reached : (half d : ℕ) (t : Bool) → ltb half d ≡ t → d < 2 * half → InTurn half (pos half -ℤ pos d)
-reached half d true e h = rw (short half d (ltb-true half d e)) (far half d (ltb-true half d e) h)
-reached half d false e h = rw (at-least half d (ltb-false half d e)) (near half d (omega arith))
+reached half d true e h = rw (taken-beyond half d (ltb-true half d e)) (far half d (ltb-true half d e) h)
+reached half d false e h = rw (taken-within half d (ltb-false half d e)) (near half d (omega arith))
 
 -- a turn is two halves, not 0 and at most 360,000
 pub two-halves : (r : ℕ) → within Resolution r ≡ true → 360000 / r ≡ 2 * (180000 / r)
