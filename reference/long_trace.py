@@ -878,8 +878,8 @@ def near_level(t):
         t.read(1, index)
 
 
-def opposite_offsets(t, offset, differential):
-    """A preset at level and without a differential is the offset; Y gets the same numbers."""
+def set_offsets(t, offset, differential):
+    """A preset at level and without a differential is the offset; both axes get the same numbers."""
     opposite_readings(t, 0)
     for value, index in ((0, 4), (offset, 2), (differential, 4)):
         t.write(0, 0x6010 + index, 0, 2, value & 0xFFFF)
@@ -890,7 +890,7 @@ def turned_sum(t, resolution, operating, offset, differential, value):
     """Y has the opposite reading and the other sign, so that both axes have one sum."""
     t.write(0, 0x6000, 0, 2, resolution)
     operate(t, operating, operating ^ 1)
-    opposite_offsets(t, offset, differential)
+    set_offsets(t, offset, differential)
     opposite_readings(t, value)
     t.sync()
     t.read(0, 0x6010)
@@ -913,7 +913,7 @@ def turned_presets(t):
             (10, 12345, 0), (10, 0, 20000), (10, -170000, 10000), (10, -180000, 20000),
             (10, -180000, 0), (100, 0, 1801), (1000, 1000, -32767), (1000, -180000, 32767)):
         t.write(0, 0x6000, 0, 2, resolution)
-        opposite_offsets(t, 0, 0)
+        set_offsets(t, 0, 0)
         opposite_presets(t, value, preset)
         t.sync()
         for index in (0x6010, 0x6012, 0x6020, 0x6022):

@@ -87,7 +87,7 @@ static void count_shown(const struct basintilt_device *device, unsigned axis, un
     }
 }
 
-static bool fits(int32_t offset)
+bool fits(int32_t offset)
 {
     return offset >= INT16_MIN && offset <= INT16_MAX;
 }

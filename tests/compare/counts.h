@@ -37,8 +37,9 @@ enum { LAST_BEFORE, FIRST_OF_STEP, EDGES, TEN_DEGREES = 10000, TENS = BASINTILT_
 /* What shows an angle: the PDO or a read, of an axis, at a resolution. */
 enum { SHOWN = 2 * AXES * RESOLUTIONS };
 
-/* How far a sum was moved, where it stood beside the ends of the range, and presets that a turn would change. */
+/* How far a sum was moved and where it came to stand, where it stood before, and presets that a turn would change. */
 enum { NOT_MOVED, ONE_TURN, SOME_TURNS, MOST_TURNS, MOVED_KINDS };
+enum { ON_LOWEST, ON_NEXT_TO_HIGHEST, ON_HIGHEST, BETWEEN_THEM, LANDINGS };
 enum { LOWER_END, ABOVE_LOWER_END, UPPER_END, ABOVE_UPPER_END, TURN_ENDS };
 enum { PRESET_PAST_TURN, OFFSET_PAST_TURN, OFFSET_TOO_LONG, PRESET_KINDS };
 
@@ -166,7 +167,7 @@ struct counts {
     uint64_t step_edges[RESOLUTIONS * SIGNS * EDGES * TENS];
     uint64_t sums_at_halves[AXES * SIGNS];
     uint64_t zeros_by_rounding[AXES * 2];
-    uint64_t turns[SHOWN * SIGNS * MOVED_KINDS];
+    uint64_t turns[SHOWN * SIGNS * MOVED_KINDS * LANDINGS];
     uint64_t turn_ends[SHOWN * SIGNS * TURN_ENDS];
     uint64_t offset_ends[SHOWN * 4];
     uint64_t turned_and_clamped[SHOWN * SIGNS];
@@ -198,9 +199,10 @@ void count_lss(const struct pair *pair, const struct call *call);
 /* What a frame of an answer says of an angle. */
 void count_angles(const struct pair *pair, const struct call *call, const struct basintilt_frame *frame);
 
-/* What an angle that is shown says of its sum, and a preset that was judged. */
+/* What an angle that is shown says of its sum, and a preset that was judged; whether an offset fits 16 bits. */
 void count_turn(const struct basintilt_axis_settings *settings, int32_t q, unsigned resolution, unsigned shown);
 void count_turned_preset(int32_t preset, int32_t offset, unsigned resolution, unsigned axis);
+bool fits(int32_t offset);
 
 /* What was found of a setting's origin, and in which journal. */
 void count_origin(const struct pair *pair, const struct call *call);

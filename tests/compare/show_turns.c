@@ -13,16 +13,24 @@ static void show_shown(unsigned shown)
 static void show_moved(unsigned which)
 {
     static const char *const moved[MOVED_KINDS] = {"not at all", "by one turn", "by some turns", "by the most turns"};
-    show_shown(which / MOVED_KINDS / SIGNS);
-    printf(", %s%s", moved[which % MOVED_KINDS], which % MOVED_KINDS == NOT_MOVED ? "" : which / MOVED_KINDS % SIGNS == 0 ? " down" : " up");
+    static const char *const landings[LANDINGS] = {"on the lowest number", "next to the highest", "on the highest", "between"};
+    unsigned kind = which / LANDINGS % MOVED_KINDS;
+    show_shown(which / LANDINGS / MOVED_KINDS / SIGNS);
+    printf(", %s%s, %s", moved[kind], kind == NOT_MOVED ? "" : which / LANDINGS / MOVED_KINDS % SIGNS == 0 ? " down" : " up",
+           landings[which % LANDINGS]);
 }
 
-/* Not at all has no direction; the most turns are one or two where 6000 is 1 or 10. */
+/* Not at all has no direction; the most turns are one or two where 6000 is 1 or 10, and reach the near end of the range alone. */
 static bool can_move(unsigned which)
 {
-    unsigned moved = which % MOVED_KINDS;
-    int32_t most = most_turns[which / MOVED_KINDS / SIGNS % RESOLUTIONS];
-    return moved == NOT_MOVED ? which / MOVED_KINDS % SIGNS == 0 : moved == MOST_TURNS || (moved == ONE_TURN ? most > 1 : most > 2);
+    unsigned landing = which % LANDINGS;
+    unsigned kind = which / LANDINGS % MOVED_KINDS;
+    bool up = which / LANDINGS / MOVED_KINDS % SIGNS == 1;
+    int32_t most = most_turns[which / LANDINGS / MOVED_KINDS / SIGNS % RESOLUTIONS];
+    if (kind == MOST_TURNS) {
+        return landing == BETWEEN_THEM || (up ? landing != ON_LOWEST : landing == ON_LOWEST);
+    }
+    return kind == NOT_MOVED ? !up : kind == ONE_TURN ? most > 1 : most > 2;
 }
 
 static void show_end(unsigned which)
@@ -44,7 +52,7 @@ static void show_clamped(unsigned which)
     printf(", %s", which % SIGNS == 0 ? "down" : "up");
 }
 
-/* A turn leaves 16 bits where 6000 is 1 alone. */
+/* A turned sum passes 32,767 where 6000 is 1 alone, and there always. */
 static bool can_clamp(unsigned which)
 {
     return which / SIGNS % RESOLUTIONS == 0;
@@ -58,15 +66,15 @@ static void show_unturned(unsigned which)
 
 static void show_preset(unsigned which)
 {
-    static const char *const kinds[PRESET_KINDS] = {"preset past half a turn", "offset past half a turn", "offset refused that a turn would change"};
+    static const char *const kinds[PRESET_KINDS] = {"preset past half a turn", "offset past half a turn", "offset refused that would fit turned"};
     printf("%c, 6000 is %d, %s", which / PRESET_KINDS / RESOLUTIONS == 0 ? 'X' : 'Y', (int)resolutions[which / PRESET_KINDS % RESOLUTIONS],
            kinds[which % PRESET_KINDS]);
 }
 
-/* Half a turn does not fit 16 bits where 6000 is 1. */
+/* Where 6000 is 1 half a turn does not fit 16 bits, and no offset is so long that it would fit turned. */
 static bool can_be_past(unsigned which)
 {
-    return which / PRESET_KINDS % RESOLUTIONS != 0 || which % PRESET_KINDS == OFFSET_TOO_LONG;
+    return which / PRESET_KINDS % RESOLUTIONS != 0;
 }
 
 bool show_turn_counts(void)

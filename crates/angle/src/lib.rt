@@ -1,11 +1,11 @@
 // Angle and zero: what an axis shows, and the offset that a preset asks for.
 ghost use mathlib.Core.Path.{_≡_};
 ghost use mathlib.Core.Bool.{true};
-ghost use Prim.Native.Nat.{_+_, _/_, _%_, _≤_};
+ghost use Prim.Native.Nat.{_+_, _/_, _≤_};
 ghost use lib.IntN.{pos, natAbs, _-ℤ_};
 ghost use lib.Signed.{mag};
 ghost use Rattle.rules.specs.declared.objects.Setting.the-variants.{Resolution};
-ghost use Rattle.rules.specs.Angle.{rounded, steps, q, nearer, sum, turned, turnedIfShifted, angle, shown, offset, zeroed};
+ghost use Rattle.rules.specs.Angle.{rounded, steps, q, nearer, sum, rest, turned, turnedIfShifted, angle, shown, offset, zeroed};
 ghost use Rattle.rules.specs.Ranges.{inside, axisOk};
 ghost use Rattle.rules.specs.Settings.{within};
 use rules::aborts;
@@ -93,10 +93,10 @@ fn sum(m: i32, r: u16, operating: u16, offset: i16, differential: i16) -> i32
     }
 }
 
-// What whole turns leave of n steps: behind a turn's power of two 16 bits are enough, and of 16 bits a fixed divisor is a product on every core.
+// What whole turns leave of a way up, which two offsets lengthen: behind a turn's power of two 16 bits are enough, and of 16 bits a fixed divisor is a product on every core.
 fn rest(n: u32, r: u16) -> u32
     requires { ⌜ (within Resolution r ≡ true) × (n ≤ 360000 + 65537 + 360000 / r) ⌝ }
-    ensures { λ t. ⌜ t ≡ n % (360000 / r) ⌝ }
+    ensures { λ t. ⌜ t ≡ rest (360000 / r) (pos n) ⌝ }
 {
     match r {
         1 => n - ((n / 64) as u16 / 5625) as u32 * 360000,

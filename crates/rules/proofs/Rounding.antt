@@ -78,8 +78,8 @@ away-neg : (m : ℤ) (r : ℕ) (t : ℤ) → away (negℤ m) r (negℤ t) ≡ aw
 away-neg m r t =
     ap (λ z. natAbs (negℤ m -ℤ z)) (times-neg t r) ∙ ap natAbs (sym (negℤ-+ℤ m (negℤ (t *ℤ pos r)))) ∙ size-neg (m -ℤ t *ℤ pos r)
 
-turned : (m : ℤ) (r : ℕ) (t : ℤ) → Rounded m r t → Rounded (negℤ m) r (negℤ t)
-turned m r t h = rw (away-neg m r t, size-neg m, size-neg t) h
+mirrored : (m : ℤ) (r : ℕ) (t : ℤ) → Rounded m r t → Rounded (negℤ m) r (negℤ t)
+mirrored m r t h = rw (away-neg m r t, size-neg m, size-neg t) h
 
 -- the steps are m / r rounded
 rounds-up : (a r : ℕ) → 0 < r → Rounded (pos a) r (pos (rounded a r))
@@ -90,7 +90,7 @@ rounds-up a r h =
 
 pub rounds : (m : ℤ) (r : ℕ) → 0 < r → Rounded m r (steps m r)
 rounds (pos a) r h = rw (from-zero a r) (rounds-up a r h)
-rounds (negsuc a) r h = rw (below-zero a r) (turned (pos (suc a)) r (pos (rounded (suc a) r)) (rounds-up (suc a) r h))
+rounds (negsuc a) r h = rw (below-zero a r) (mirrored (pos (suc a)) r (pos (rounded (suc a) r)) (rounds-up (suc a) r h))
 
 -- and no other number is
 upper : (a r k : ℕ) (t : Bool) → ltb (2 * away (pos a) r (pos k)) r ≡ t → Rounded (pos a) r (pos k) → 2 * a + r < 2 * (k * r) + 2 * r
@@ -111,7 +111,7 @@ only-up a r (negsuc k) h s =
 pub only : (m : ℤ) (r : ℕ) (t : ℤ) → 0 < r → Rounded m r t → t ≡ steps m r
 only (pos a) r t h s = only-up a r t h s ∙ sym (from-zero a r)
 only (negsuc a) r t h s =
-    sym (negℤ-negℤ t) ∙ ap negℤ (only-up (suc a) r (negℤ t) h (turned (negsuc a) r t s)) ∙ sym (below-zero a r)
+    sym (negℤ-negℤ t) ∙ ap negℤ (only-up (suc a) r (negℤ t) h (mirrored (negsuc a) r t s)) ∙ sym (below-zero a r)
 
 -- how large they are: no larger than m, and of a reading in range at most 180,000 / r
 size-of : (m : ℤ) (r : ℕ) → natAbs (steps m r) ≡ rounded (natAbs m) r

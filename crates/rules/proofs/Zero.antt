@@ -1,4 +1,4 @@
--- What a preset means: where bit 1 of 6011 is set, the sum after an accepted preset is the preset, whatever the reading, and the angle is that preset turned.
+-- What a preset means: where bit 1 of 6011 is set, the sum after an accepted preset is the preset, whatever the reading, and the angle is the preset turned and brought in.
 use mathlib.Core.Path.{_≡_}
 use mathlib.Core.Bool.{true}
 use Prim.Native.Nat.{ℕ}

@@ -44,8 +44,7 @@ abbrev pub rest : ℕ → ℤ → ℕ
 rest turn (ℤ.pos n) = n % turn
 rest turn (ℤ.negsuc n) = turn - suc (n % turn)
 
--- "moved by whole turns (360,000 / r) until it is above −180,000 / r and at most 180,000 / r":
--- it is as far below 180,000 / r as whole turns leave of its way up there
+-- "moved by whole turns (360,000 / r) until it is above −180,000 / r and at most 180,000 / r": taken out of its way up to 180,000 / r
 unfoldable pub turned : ℕ → ℤ → ℤ
 turned r z = pos (180000 / r) -ℤ pos (rest (360000 / r) (pos (180000 / r) -ℤ z))
 
@@ -53,7 +52,7 @@ turned r z = pos (180000 / r) -ℤ pos (rest (360000 / r) (pos (180000 / r) -ℤ
 abbrev pub turnedIfShifted : ℕ → ℕ → ℤ → ℤ
 turnedIfShifted r operating z = cond (shifted operating) (turned r z) z
 
--- "and then brought into −32,767 to 32,767 at the nearer end"
+-- "and then brought into −32,767 to 32,767 at the nearer end"; turned or not, "clamping applies as before"
 unfoldable pub angle : ℤ → ℕ → ℕ → ℤ → ℤ → ℤ
 angle m r operating offset differential = nearer 32767 (turnedIfShifted r operating (sum m r operating offset differential))
 

@@ -44,7 +44,7 @@ asked =
     angleOf (pos 0) 1000 2 (pos 32767) ∷ angleOf (pos 0) 1000 2 (minus 32768) ∷
     angleOf (pos 180000) 1 2 (pos 32767) ∷ angleOf (minus 180000) 1 2 (minus 32767) ∷ []
 
--- what the paper says
+-- what the paper says of (a) to (l), and what follows from item 5
 abbrev pub told : List Sample
 told =
     shows (pos 1235) ∷ shows (minus 1235) ∷ shows (minus 2) ∷

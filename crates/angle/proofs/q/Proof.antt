@@ -16,8 +16,8 @@ use Rattle.angle.proofs.q.Tie as tie
 whole : (c : tie.After-steps) → toZ w32 (ofZ w32 (c .steps .result)) ≡ steps (c .before .args .m) (c .before .args .r)
 whole c = ok w32 (c .steps .result) (c .steps .ok) ∙ (simp (toZ-ofZ (c .before .fits .m)) at (c .steps .ensures))
 
-turned : (c : tie.After-steps) → SFits w32 (negℤ (steps (c .before .args .m) (c .before .args .r)))
-turned c =
+negated : (c : tie.After-steps) → SFits w32 (negℤ (steps (c .before .args .m) (c .before .args .r)))
+negated c =
     let m = c .before .args .m in
     let r = c .before .args .r in
     record { sfits = omega (arith, mag-neg (steps m r), steps-small m r (c .before .pre .1)) }
@@ -26,11 +26,11 @@ steps-requires : tie.Need-steps-requires
 steps-requires c κs = search needs
 
 sub-result : tie.Need-sub-result
-sub-result c = simp (whole (c .before), minus) (turned (c .before))
+sub-result c = simp (whole (c .before), minus) (negated (c .before))
 
 returns : tie.Need-returns
 unfolding q
-returns c = simp (whole (c .before), minus, eq-eqb _ _ (c .if1 .taken)) (toZ-ofZ (turned (c .before)))
+returns c = simp (whole (c .before), minus, eq-eqb _ _ (c .if1 .taken)) (toZ-ofZ (negated (c .before)))
 
 returns-2 : tie.Need-returns-2
 unfolding q

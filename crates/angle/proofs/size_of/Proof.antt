@@ -15,8 +15,8 @@ use Rattle.angle.proofs.size_of.Tie as tie
 opposite : (m : ℤ) → ltZ m (pos 0) ≡ true → negℤ m ≡ pos (natAbs m)
 opposite m e = subst (λ z. negℤ z ≡ pos (natAbs z)) (below-zero m e) refl
 
-turned : (c : tie.Then1) → pos 0 -ℤ toZ w32 (ofZ w32 (c .before .args .m)) ≡ pos (natAbs (c .before .args .m))
-turned c =
+negated : (c : tie.Then1) → pos 0 -ℤ toZ w32 (ofZ w32 (c .before .args .m)) ≡ pos (natAbs (c .before .args .m))
+negated c =
     let s = c .before in
     simp (toZ-ofZ (s .fits .m), minus) (opposite (s .args .m) (simp (toZ-ofZ (s .fits .m)) at (c .if1 .taken)))
 
@@ -30,8 +30,8 @@ pub size-of-spec : {M : Type 1} → statement M
 size-of-spec =
     tie.close
     (tie.spec
-    (λ c. simp (turned c) (signed (c .before)))
-    (λ c. simp (turned c, toZ-ofZ (signed (c .before))) (tt, unsigned (c .before)))
+    (λ c. simp (negated c) (signed (c .before)))
+    (λ c. simp (negated c, toZ-ofZ (signed (c .before))) (tt, unsigned (c .before)))
     (λ c. let s = c .before in simp (toZ-ofZ (s .fits .m)) (non-neg (s .args .m) (simp (toZ-ofZ (s .fits .m)) at (c .if1 .left)), unsigned s))
-    (λ c. simp (turned c, toZ-ofZ (signed (c .before))))
+    (λ c. simp (negated c, toZ-ofZ (signed (c .before))))
     (λ c. simp (toZ-ofZ (c .before .fits .m))))

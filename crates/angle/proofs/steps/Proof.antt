@@ -35,20 +35,20 @@ small c =
 read : (c : tie.After-rounded) → toZ w32 (c .rounded .result) ≡ pos (c .rounded .result)
 read c = toZ-pos w32 (omega (arith, small c))
 
-turned : (c : tie.After-rounded) → SFits w32 (negℤ (pos (c .rounded .result)))
-turned c = record { sfits = omega (arith, mag-neg (pos (c .rounded .result)), small c) }
+negated : (c : tie.After-rounded) → SFits w32 (negℤ (pos (c .rounded .result)))
+negated c = record { sfits = omega (arith, mag-neg (pos (c .rounded .result)), small c) }
 
 cast-whole : tie.Need-cast-whole
 cast-whole c = record { sfits = omega (arith, small c) }
 
 sub-result : tie.Need-sub-result
-sub-result c = simp (read (c .before), minus) (turned (c .before))
+sub-result c = simp (read (c .before), minus) (negated (c .before))
 
 returns : tie.Need-returns
 unfolding steps
 returns c =
     let s = c .before .before .before in
-    simp (read (c .before), minus, simp (toZ-ofZ (s .fits .m)) at (c .if1 .taken), sym (whole (c .before))) (toZ-ofZ (turned (c .before)))
+    simp (read (c .before), minus, simp (toZ-ofZ (s .fits .m)) at (c .if1 .taken), sym (whole (c .before))) (toZ-ofZ (negated (c .before)))
 
 returns-2 : tie.Need-returns-2
 unfolding steps

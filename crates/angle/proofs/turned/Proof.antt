@@ -10,7 +10,7 @@ use mir.Facts.{toZ-ofZ, toZ-pos}
 use mir.Syntax.{w32}
 use mir.Val.{SFits, toZ}
 use Rattle.laws.proofs.Signed.{mag-sub}
-use Rattle.rules.proofs.Rounding.{half-turn}
+use Rattle.rules.proofs.Rounding.{smaller, half-turn}
 use Rattle.rules.proofs.Turning.{two-halves, some-turn, most-turn}
 use Rattle.rules.specs.Angle.{turned}
 use Rattle.angle.proofs.Turns.{up, same-rest}
@@ -21,7 +21,7 @@ half : (c : tie.After-rounded) → c .rounded .result ≡ 180000 / c .before .ar
 half c = c .rounded .ensures ∙ half-turn (c .before .args .r) (c .before .pre .0)
 
 small : (c : tie.After-rounded) → c .rounded .result ≤ 180000
-small c = omega (arith, half c, two-halves (c .before .args .r) (c .before .pre .0), most-turn (c .before .args .r) (c .before .pre .0))
+small c = omega (arith, c .rounded .ensures, smaller 180000 (c .before .args .r))
 
 -- the way that is handed on
 way : (c : tie.After-way-up) → pos (c .way-up .result) ≡ pos (360000 + c .before .rounded .result) -ℤ c .before .before .args .z
@@ -30,8 +30,8 @@ way c = simp (toZ-ofZ (c .before .before .fits .z)) at (c .way-up .ensures)
 long : (c : tie.After-way-up) → c .way-up .result ≤ 360000 + c .before .rounded .result + suc (mag (c .before .before .args .z))
 long c =
     let s = c .before .before in
-    let steps = up (360000 + c .before .rounded .result) (s .args .z) (omega (arith, half (c .before))) in
-    omega (arith, ap natAbs (way c ∙ steps .1), steps .2)
+    let reach = up (360000 + c .before .rounded .result) (s .args .z) (omega (arith, half (c .before))) in
+    omega (arith, ap natAbs (way c ∙ reach .1), reach .2)
 
 -- what is left of it
 left : (c : tie.After-rest) → c .rest .result < 360000
