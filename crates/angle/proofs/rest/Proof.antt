@@ -8,7 +8,7 @@ use Rattle.angle.proofs.rest.Tie as tie
 
 -- the last turn serves 1000 alone
 last : (c : tie.At-match-rest) → c .before .args .r ≡ 1000
-last c = last-resolution (c .before .args .r) (c .before .pre .0) (c .match .rest .0 .0 .1) (c .match .rest .0 .1) (c .match .rest .1)
+last c = last-resolution (c .before .args .r) (c .before .pre .0) (λ e. omega arith) (λ e. omega arith) (λ e. omega arith)
 
 pub rest-spec : {M : Type 1} → statement M
 rest-spec =
