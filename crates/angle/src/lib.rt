@@ -93,7 +93,7 @@ fn sum(m: i32, r: u16, operating: u16, offset: i16, differential: i16) -> i32
     }
 }
 
-// What whole turns leave of a way up, which two offsets lengthen: behind a turn's power of two 16 bits are enough, and of 16 bits a fixed divisor is a product on every core.
+// What whole turns leave of a way up: behind a turn's power of two 16 bits hold it, and of 16 bits a fixed divisor is a product on every core.
 fn rest(n: u32, r: u16) -> u32
     requires { ⌜ (within Resolution r ≡ true) × (n ≤ 360000 + 65537 + 360000 / r) ⌝ }
     ensures { λ t. ⌜ t ≡ rest (360000 / r) (pos n) ⌝ }

@@ -6,8 +6,9 @@ use native.Mathlib.Nat.{div-zero, div-mul-le-self, div-lt-iff-lt-mul, lt-div-mul
 use native.Mathlib.Omega.{arith}
 use borrow.Author.Tests.{ltb-true, ltb-false, le-ltb}
 use lib.Dec.{ltb}
-use lib.IntN.{ℤ, pos, negsuc, negℤ, natAbs, subℕ, _-ℤ_, _*ℤ_, negℤ-negℤ, negℤ-+ℤ, zero-*ℤ}
+use lib.IntN.{ℤ, pos, negsuc, negℤ, natAbs, _-ℤ_, _*ℤ_, negℤ-negℤ, negℤ-+ℤ, zero-*ℤ}
 use Rattle.laws.proofs.Bools.{cond-both}
+use Rattle.laws.proofs.Signed.{taken-within, taken-beyond}
 use Rattle.rules.proofs.Ranges.{each-resolution, inside-size}
 use Rattle.rules.specs.declared.objects.Setting.the-variants.{Resolution}
 use Rattle.rules.specs.Angle.{reversed, rounded, steps, q}
@@ -56,13 +57,12 @@ sign-inside m r operating = by-sign (reversed operating)
     by-sign false = refl
 
 -- how far two numbers are from one another, and what is so on one side of zero is so on the other
-apart : (a b : ℕ) (t : Bool) → ltb a b ≡ t → natAbs (subℕ a b) ≡ (a - b) + (b - a)
-apart a b true e = simp e (omega (arith, ltb-true a b e))
-apart a b false e = simp e (omega (arith, ltb-false a b e))
+apart : (a b : ℕ) (t : Bool) → ltb a b ≡ t → natAbs (pos a -ℤ pos b) ≡ (a - b) + (b - a)
+apart a b true e = rw (taken-beyond a b (ltb-true a b e)) (omega (arith, ltb-true a b e))
+apart a b false e = rw (taken-within a b (ltb-false a b e)) (omega (arith, ltb-false a b e))
 
 gap : (a b : ℕ) → natAbs (pos a -ℤ pos b) ≡ (a - b) + (b - a)
-gap a zero = omega arith
-gap a (suc b) = apart a (suc b) _ refl
+gap a b = apart a b _ refl
 
 size-neg : (z : ℤ) → natAbs (negℤ z) ≡ natAbs z
 size-neg (pos zero) = refl

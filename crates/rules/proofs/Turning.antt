@@ -107,11 +107,12 @@ unfolding angle sum
 clear-stays m r operating offset differential e = simp e
 
 -- moved or not, the angle is from −32,767 to 32,767
-brought-in : (z : ℤ) → betweenℤ (minus 32767) (pos 32767) (nearer 32767 z) ≡ true
-brought-in (pos n) =
-    cond-each (λ (z : ℤ). betweenℤ (minus 32767) (pos 32767) z ≡ true) (ltb 32767 n) (λ e. refl) (λ e. le-leb n 32767 (ltb-false 32767 n e))
-brought-in (negsuc n) =
-    cond-each (λ (z : ℤ). betweenℤ (minus 32767) (pos 32767) z ≡ true) (ltb 32766 n) (λ e. refl) (λ e. simp (le-leb n 32766 (ltb-false 32766 n e)))
+abbrev Held : ℤ → Type 0
+Held z = betweenℤ (minus 32767) (pos 32767) z ≡ true
+
+brought-in : (z : ℤ) → Held (nearer 32767 z)
+brought-in (pos n) = cond-each Held (ltb 32767 n) (λ e. refl) (λ e. le-leb n 32767 (ltb-false 32767 n e))
+brought-in (negsuc n) = cond-each Held (ltb 32766 n) (λ e. refl) (λ e. simp (le-leb n 32766 (ltb-false 32766 n e)))
 
 pub angle-range : (m : ℤ) (r operating : ℕ) (offset differential : ℤ) → betweenℤ (minus 32767) (pos 32767) (angle m r operating offset differential) ≡ true
 unfolding angle

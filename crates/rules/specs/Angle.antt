@@ -44,7 +44,7 @@ abbrev pub rest : ℕ → ℤ → ℕ
 rest turn (ℤ.pos n) = n % turn
 rest turn (ℤ.negsuc n) = turn - suc (n % turn)
 
--- "moved by whole turns (360,000 / r) until it is above −180,000 / r and at most 180,000 / r": taken out of its way up to 180,000 / r
+-- "moved by whole turns (360,000 / r) until it is above −180,000 / r and at most 180,000 / r": whole turns go out of its way up to 180,000 / r
 unfoldable pub turned : ℕ → ℤ → ℤ
 turned r z = pos (180000 / r) -ℤ pos (rest (360000 / r) (pos (180000 / r) -ℤ z))
 
