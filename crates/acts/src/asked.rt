@@ -4,7 +4,7 @@ ghost use Rattle.acts.specs.Asked.{step_for, asked_of};
 
 use rules::requests::{Caller, Change, Outcome};
 
-#[derive(Drop)]
+#[derive(Clone, Copy)]
 pub struct Asked {
     pub step: u8,
     pub caller: Caller,

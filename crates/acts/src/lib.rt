@@ -1,4 +1,6 @@
 // What an event comes to, decided before anything is done: the step to take, and what it takes.
+#![tactic(auto)]
+
 pub mod asked;
 
 ghost use Rattle.std.specs.Prelude.{◌≡◌};
@@ -13,7 +15,7 @@ use rules::states;
 const WRONG_FRAME: u16 = 2;
 
 // The step's number, what one of the steps takes, else zeros, and the bytes as they came.
-#[derive(Drop)]
+#[derive(Clone, Copy)]
 pub struct Act {
     pub step: u8,
     pub refusal: u16,

@@ -1,4 +1,6 @@
 // Angle and zero: what an axis shows, and the offset that a preset asks for.
+#![tactic(auto)]
+
 ghost use Rattle.std.specs.Prelude.{◌≡◌, true, ◌+◌, ◌/◌, ◌≤◌, pos, nat_abs, ◌-ℤ◌};
 ghost use Rattle.std.specs.Int.Signed.{mag};
 ghost use Rattle.rules.specs.declared.objects.Setting.TheVariants.{Resolution};

@@ -1,4 +1,6 @@
 // The answer to an event or a power-on: the refusal, and the frames that are sent.
+#![tactic(auto)]
+
 ghost use Rattle.std.specs.Prelude.{◌≡◌, true, cond, [], ◌∷◌, ◌++◌};
 ghost use Rattle.rules.specs.Frames;
 ghost use Rattle.rules.specs.Frames.{pdo_frame, reply_frame};
@@ -20,7 +22,7 @@ pub const MOST_FRAMES: usize = 2;
 
 // The number of the refusal, 0 where there is none, and the frames in their order; the places past the count are all zero.
 #[repr(C)]
-#[derive(Drop)]
+#[derive(Clone, Copy)]
 pub struct Answer {
     pub refusal: u16,
     pub count: u16,

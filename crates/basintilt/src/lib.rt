@@ -1,4 +1,6 @@
 // What the recorder's C firmware calls: power-on, one event on its lent device record, the block query and the origin query.
+#![tactic(auto)]
+
 mod lent;
 pub mod origin;
 
@@ -20,7 +22,7 @@ use rules::parts::Identity;
 // An event in numbers. Kind 0 is a frame, 1 a remote frame (identifier, length and bytes), 2 a tick (ms), 3 and 4 a reading of
 // axis X and Y (m); any other number is a remote frame of identifier 0 and length 0, which does nothing.
 #[repr(C)]
-#[derive(Drop)]
+#[derive(Clone, Copy)]
 pub struct Happening {
     pub kind: u8,
     pub length: u8,

@@ -6,7 +6,7 @@ use rules::origins::Brought;
 
 // Where a setting's value comes from, in numbers: a block that is none is 0 throughout.
 #[repr(C)]
-#[derive(Drop)]
+#[derive(Clone, Copy)]
 pub struct Finding {
     pub refusal: u32,
     pub value: i32,

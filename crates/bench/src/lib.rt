@@ -1,4 +1,6 @@
 // The bench of the trace program: lines of events in, the sensor's frames or a refusal out.
+#![tactic(auto)]
+
 use answers::Answer;
 use device::Device;
 use libc::{STDIN_FILENO, STDOUT_FILENO};
@@ -9,7 +11,7 @@ use texts::Text;
 const LINE_FEED: u8 = 10;
 
 // The sensor, and the line that is being read.
-#[derive(Drop)]
+#[derive(Clone, Copy)]
 struct Bench {
     device: Device,
     line: Text,

@@ -1,4 +1,6 @@
 // The device: its record, what moves it, and what it answers.
+#![tactic(auto)]
+
 mod events;
 mod network;
 mod range;
@@ -20,7 +22,7 @@ use rules::settings::Settings;
 
 // The device record: plain numbers, so that any record can be given, and refused.
 #[repr(C)]
-#[derive(Drop)]
+#[derive(Clone, Copy)]
 pub struct Device {
     pub identity: Identity,
     pub x: Reading,
@@ -38,7 +40,7 @@ pub struct Device {
 
 // The new device record and the answer.
 #[repr(C)]
-#[derive(Drop)]
+#[derive(Clone, Copy)]
 pub struct Stepped {
     pub device: Device,
     pub answer: Answer,

@@ -1,4 +1,6 @@
 // What a line says that brings a frame: F.
+#![tactic(auto)]
+
 ghost use Rattle.std.specs.Prelude.{◌≡◌, ◌≤◌, length};
 ghost use Rattle.frame_lines.specs.Reading;
 ghost use Rattle.frame_lines.specs.Reading.{identifier_in, until_blank};
@@ -8,7 +10,7 @@ use plain_lines::Line;
 use rules::events::{Event, FrameHead};
 
 // The bytes of a frame stand beside its event: the first eight, 0 past the end, and how many there are.
-#[derive(Drop)]
+#[derive(Clone, Copy)]
 pub struct Parsed {
     pub line: Line,
     pub bytes: [u8; 8],

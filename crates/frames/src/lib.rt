@@ -1,4 +1,6 @@
 // The frames that the device sends, and the error register that an emergency carries.
+#![tactic(auto)]
+
 ghost use Rattle.std.specs.Prelude.{◌≡◌, true, cond, ◌≤◌};
 ghost use Rattle.rules.specs.Errors;
 ghost use Rattle.rules.specs.Frames;

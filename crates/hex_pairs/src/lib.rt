@@ -1,4 +1,6 @@
 // Bytes as the lines write them: joined hex pairs.
+#![tactic(auto)]
+
 ghost use Rattle.std.specs.Prelude.{true, ◌≡◌, ◌<◌, get_or};
 ghost use Rattle.laws.specs.Lists.{elements};
 ghost use Rattle.numerals.specs.Numerals.{digits};

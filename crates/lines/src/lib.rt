@@ -1,4 +1,6 @@
 // What a line of the trace program says.
+#![tactic(auto)]
+
 ghost use Rattle.std.specs.Prelude.{◌≡◌};
 ghost use Rattle.lines.specs.Collecting.{text_collected};
 ghost use Rattle.lines.specs.Reading;

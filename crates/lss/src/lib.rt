@@ -1,4 +1,6 @@
 // LSS: the outcome of a request that selects the sensor, sets its node number, stores it or tells of it.
+#![tactic(auto)]
+
 ghost use Rattle.std.specs.Prelude.{◌≡◌, ◌≤◌};
 ghost use Rattle.rules.specs.Lss.{lss_command_of, identity_part, matches_before, lss_replied, lss_silent, on_switch, on_select, on_set_node, on_store, in_mode, on_lss_command, lss_outcome};
 ghost use Rattle.rules.specs.State;
@@ -12,7 +14,7 @@ use rules::requests::{Change, IdentityPart, LssCommand, Outcome, Verdict};
 use rules::states;
 
 // What an LSS request may look at.
-#[derive(Drop)]
+#[derive(Clone, Copy)]
 pub struct Sight {
     pub identity: Identity,
     pub node: u8,

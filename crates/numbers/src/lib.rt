@@ -1,4 +1,6 @@
 // Numbers as bytes: low byte first, signed ones in two's complement.
+#![tactic(auto)]
+
 ghost use Rattle.std.specs.Prelude.{◌≡◌, ◌/◌, ◌%◌};
 ghost use Rattle.rules.specs.Numbers.{unsigned, signed};
 

@@ -1,9 +1,11 @@
 // Numbers as the lines write them: hex of either case, and decimal.
+#![tactic(auto)]
+
 ghost use Rattle.std.specs.Prelude.{◌≡◌, ◌≤◌, get_or};
 ghost use Rattle.numerals.specs.Numerals.{decimal_in, digit_of, number_in};
 
 // A number of 32 bits, or none.
-#[derive(Drop)]
+#[derive(Clone, Copy)]
 pub enum Number {
     Of(u32),
     Not,

@@ -1,4 +1,6 @@
 // The object table: which object an index and a subindex name, and so a request.
+#![tactic(auto)]
+
 ghost use Rattle.std.specs.Prelude.{◌≡◌};
 ghost use Rattle.rules.specs.Objects.{on_pdo, object_at};
 ghost use Rattle.rules.specs.Requests.{index_of, subindex_of};

@@ -1,4 +1,6 @@
 // The origin of a value as one line: `-1235 block 12 channel 1 save`, `0 factory`, or `R 1`, `R 6`.
+#![tactic(auto)]
+
 ghost use Rattle.std.specs.Prelude.{◌≡◌, nat_abs};
 
 use libc::STDOUT_FILENO;

@@ -1,10 +1,12 @@
 // An index and a subindex as a word: four hex digits, a colon, and the subindex in decimal.
+#![tactic(auto)]
+
 ghost use Rattle.std.specs.Prelude.{◌≡◌};
 ghost use Rattle.pairs.specs.Pairs.{joined, pair_in};
 
 use numerals::Number;
 
-#[derive(Drop)]
+#[derive(Clone, Copy)]
 pub enum Pair {
     Of(u16, u8),
     Not,

@@ -1,4 +1,6 @@
 // What a line says that brings no bytes: P, T, X and Y.
+#![tactic(auto)]
+
 ghost use Rattle.std.specs.Prelude.{◌≡◌};
 ghost use Rattle.plain_lines.specs.Reading;
 ghost use Rattle.plain_lines.specs.Reading.{line_of, tick_of};
@@ -7,7 +9,7 @@ use numerals::Number;
 use rules::events::Event;
 use rules::objects::Axis;
 
-#[derive(Drop)]
+#[derive(Clone, Copy)]
 pub enum Line {
     PowerOn(u8),
     Happens(Event),

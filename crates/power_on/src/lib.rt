@@ -1,4 +1,6 @@
 // Power-on, from node, identity and journal.
+#![tactic(auto)]
+
 ghost use Rattle.std.specs.Prelude.{◌≡◌, []};
 ghost use Rattle.device.specs.Answers.{stepped_of};
 ghost use Rattle.device.specs.Promise.{PoweredOn};

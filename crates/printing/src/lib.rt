@@ -1,4 +1,6 @@
 // What the trace program prints: a frame or a refusal as one line.
+#![tactic(auto)]
+
 ghost use Rattle.std.specs.Prelude.{◌≡◌, ◌<◌, min};
 ghost use Rattle.printing.specs.Printing.{capital, decimal, frame_line, pair, refusal_line};
 ghost use Rattle.texts.specs.Texts.{longer_by, text_of};

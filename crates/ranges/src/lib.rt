@@ -1,4 +1,6 @@
 // The ranges of the device record: what a record holds that is not refused with 3.
+#![tactic(auto)]
+
 ghost use Rattle.std.specs.Prelude.{◌≡◌};
 ghost use Rattle.rules.specs.declared.objects.Setting.TheVariants.{Resolution};
 ghost use Rattle.rules.specs.Settings.{within, in_table};

@@ -1,4 +1,6 @@
 // A reading of an axis: the axes after it, whether that is a new fault, the code of the fault, the error list, and the emergency.
+#![tactic(auto)]
+
 ghost use Rattle.std.specs.Prelude.{◌≡◌};
 ghost use Rattle.rules.specs.Network.{no_reading};
 ghost use Rattle.rules.specs.Readings;

@@ -1,4 +1,6 @@
 // The eight bytes that reply to a request.
+#![tactic(auto)]
+
 ghost use Rattle.std.specs.Prelude.{◌≡◌, ◌∷◌};
 ghost use Rattle.rules.specs.Lss.{lss_reply};
 ghost use Rattle.rules.specs.Numbers.{four};

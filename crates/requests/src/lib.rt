@@ -1,4 +1,6 @@
 // What a request of eight bytes asks, and the rule that names a frame.
+#![tactic(auto)]
+
 ghost use Rattle.std.specs.Prelude.{◌≡◌, ◌+◌, ◌*◌, ◌%◌, ◌^◌};
 ghost use Rattle.rules.specs.Numbers.{four_at};
 ghost use Rattle.rules.specs.Requests.{command_of, index_of as index_of, subindex_of as subindex_of};
@@ -98,7 +100,7 @@ pub fn value(size: u8, request: [u8; 8]) -> u32
 }
 
 // The rule that names a received frame; a wrong one is refused, and what no rule names does nothing.
-#[derive(Drop)]
+#[derive(Clone, Copy)]
 pub enum Rule {
     Wrong,
     Nothing,

@@ -1,4 +1,6 @@
 // A row of the object table: an object's length in bytes, and whether it is written.
+#![tactic(auto)]
+
 ghost use Rattle.std.specs.Prelude.{◌≡◌};
 ghost use Rattle.rules.specs.Objects.{pdo_size, row_of, setting_row, fixed_row};
 

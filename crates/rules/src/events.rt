@@ -2,13 +2,13 @@
 use crate::objects::Axis;
 
 // A received frame; its bytes stand beside it.
-#[derive(Drop)]
+#[derive(Clone, Copy)]
 pub struct FrameHead {
     pub identifier: u32,
     pub remote: bool,
 }
 
-#[derive(Drop)]
+#[derive(Clone, Copy)]
 pub enum Event {
     Received(FrameHead),
     Tick(u16),
@@ -17,7 +17,7 @@ pub enum Event {
 
 // A sent frame: the bytes past its length are 0.
 #[repr(C)]
-#[derive(Drop)]
+#[derive(Clone, Copy)]
 pub struct Frame {
     pub identifier: u16,
     pub length: u16,

@@ -1,4 +1,6 @@
 // The types of documents 01 and 02. What they mean is written in specs/, in the order of the papers.
+#![tactic(auto)]
+
 pub mod aborts;
 pub mod errors;
 pub mod events;

@@ -1,24 +1,24 @@
 // The object table's names: channels, axes, settings and objects.
-#[derive(Drop)]
+#[derive(Clone, Copy)]
 pub enum Channel {
     One,
     Two,
 }
 
-#[derive(Drop)]
+#[derive(Clone, Copy)]
 pub enum Axis {
     X,
     Y,
 }
 
 // The PDOs by their numbers: there is one.
-#[derive(Drop)]
+#[derive(Clone, Copy)]
 pub enum PdoNumber {
     First,
 }
 
 // 1800:1, :2 and :5.
-#[derive(Drop)]
+#[derive(Clone, Copy)]
 pub enum PdoSetting {
     On,
     Transmission,
@@ -26,7 +26,7 @@ pub enum PdoSetting {
 }
 
 // What a block of the journal carries, one object each.
-#[derive(Drop)]
+#[derive(Clone, Copy)]
 pub enum Setting {
     Heartbeat,
     Pdo(PdoNumber, PdoSetting),
@@ -38,7 +38,7 @@ pub enum Setting {
 }
 
 // The objects that no request changes.
-#[derive(Drop)]
+#[derive(Clone, Copy)]
 pub enum Fixed {
     DeviceType,
     ErrorRegister,
@@ -60,7 +60,7 @@ pub enum Fixed {
     Blocks,
 }
 
-#[derive(Drop)]
+#[derive(Clone, Copy)]
 pub enum Object {
     Const(Fixed),
     ErrorCount,
@@ -74,7 +74,7 @@ pub enum Object {
 }
 
 // Where an index and a subindex lead.
-#[derive(Drop)]
+#[derive(Clone, Copy)]
 pub enum Found {
     At(Object),
     NoObject,

@@ -3,7 +3,7 @@ use crate::settings::Settings;
 
 // 1018: four numbers given at power-on.
 #[repr(C)]
-#[derive(Drop)]
+#[derive(Clone, Copy)]
 pub struct Identity {
     pub vendor: u32,
     pub product: u32,
@@ -13,7 +13,7 @@ pub struct Identity {
 
 // An axis: none (0), good (1) or faulty (2), and its last good reading.
 #[repr(C)]
-#[derive(Drop)]
+#[derive(Clone, Copy)]
 pub struct Reading {
     pub state: u32,
     pub m: i32,
@@ -21,7 +21,7 @@ pub struct Reading {
 
 // The PDO's elapsed milliseconds and its SYNC count.
 #[repr(C)]
-#[derive(Drop)]
+#[derive(Clone, Copy)]
 pub struct PdoCounts {
     pub elapsed: u16,
     pub syncs: u16,
@@ -29,14 +29,14 @@ pub struct PdoCounts {
 
 // A channel's segmented transfer: absent (0), at the start (1) or after 7 bytes (2).
 #[repr(C)]
-#[derive(Drop)]
+#[derive(Clone, Copy)]
 pub struct Transfer {
     pub stage: u8,
 }
 
 // The LSS slave: waiting (0) or configuration (1), the selective matches so far, and the node number that was set, 0 where none was.
 #[repr(C)]
-#[derive(Drop)]
+#[derive(Clone, Copy)]
 pub struct Lss {
     pub mode: u16,
     pub matches: u8,
@@ -45,7 +45,7 @@ pub struct Lss {
 
 // What the record keeps of the journal; spoiled is 1 or 0, and the stored node number is 0 where none is stored.
 #[repr(C)]
-#[derive(Drop)]
+#[derive(Clone, Copy)]
 pub struct Saves {
     pub blocks: u16,
     pub filled: u16,

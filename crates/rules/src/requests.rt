@@ -4,14 +4,14 @@ use crate::objects::{Axis, Channel, Setting};
 use crate::parts::{Lss, Transfer};
 
 // Who sends a request: the client of a service channel, or the LSS master.
-#[derive(Drop)]
+#[derive(Clone, Copy)]
 pub enum Caller {
     Client(Channel),
     Master,
 }
 
 // The first byte of a service request. A write names its length in bytes, 0 for the object's own; a segment its toggle.
-#[derive(Drop)]
+#[derive(Clone, Copy)]
 pub enum Command {
     Write(u8),
     Read,
@@ -21,7 +21,7 @@ pub enum Command {
 }
 
 // The numbers of 1018, in their order.
-#[derive(Drop)]
+#[derive(Clone, Copy)]
 pub enum IdentityPart {
     Vendor,
     Product,
@@ -30,7 +30,7 @@ pub enum IdentityPart {
 }
 
 // The first byte of an LSS request.
-#[derive(Drop)]
+#[derive(Clone, Copy)]
 pub enum LssCommand {
     Switch,
     Select(IdentityPart),
@@ -42,14 +42,14 @@ pub enum LssCommand {
 }
 
 // A check: passed, or the abort code.
-#[derive(Drop)]
+#[derive(Clone, Copy)]
 pub enum Verdict {
     Pass,
     Abort(u32),
 }
 
 // What a read gives: a number with its length in bytes, the string, or the abort code.
-#[derive(Drop)]
+#[derive(Clone, Copy)]
 pub enum Got {
     Number(u8, u32),
     Text,
@@ -57,14 +57,14 @@ pub enum Got {
 }
 
 // What a preset makes of an axis: its offset, or the abort code.
-#[derive(Drop)]
+#[derive(Clone, Copy)]
 pub enum Zeroed {
     To(i16),
     Refused(u32),
 }
 
 // What an accepted request changes, with all that it takes.
-#[derive(Drop)]
+#[derive(Clone, Copy)]
 pub enum Change {
     Keep,
     Put(Setting, u32),
@@ -75,7 +75,7 @@ pub enum Change {
 }
 
 // What a request brings about: a reply of eight bytes or none, the channel's transfer after it, if a channel asked, and the change.
-#[derive(Drop)]
+#[derive(Clone, Copy)]
 pub struct Outcome {
     pub replies: bool,
     pub bytes: [u8; 8],

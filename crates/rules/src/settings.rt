@@ -4,7 +4,7 @@ ghost use Rattle.rules.specs.Settings.{factory, axis_factory, pdo_factory};
 
 // 6011 to 6014, or 6021 to 6024.
 #[repr(C)]
-#[derive(Drop)]
+#[derive(Clone, Copy)]
 pub struct AxisSettings {
     pub operating: u16,
     pub preset: i16,
@@ -14,7 +14,7 @@ pub struct AxisSettings {
 
 // 1800: on is 1 or 0; the transmission type is subindex 2, the timer subindex 5.
 #[repr(C)]
-#[derive(Drop)]
+#[derive(Clone, Copy)]
 pub struct PdoSettings {
     pub on: u8,
     pub transmission: u8,
@@ -23,7 +23,7 @@ pub struct PdoSettings {
 
 // 1017, 1800, 6000 and each axis's own.
 #[repr(C)]
-#[derive(Drop)]
+#[derive(Clone, Copy)]
 pub struct Settings {
     pub heartbeat: u16,
     pub pdo: PdoSettings,

@@ -1,4 +1,6 @@
 // Service channels: the outcome of a request.
+#![tactic(auto)]
+
 ghost use Rattle.std.specs.Prelude.{◌≡◌, get_or};
 ghost use Rattle.rules.specs.declared.objects.Channel.{Channel};
 ghost use Rattle.rules.specs.declared.requests.Caller.TheVariants.{Client};

@@ -1,4 +1,6 @@
 // For tests/stack alone: what power-on counts, over journals longer than it accepts.
+#![tactic(auto)]
+
 ghost use Rattle.std.specs.Prelude.{◌≡◌};
 ghost use Rattle.stack_probe.specs.Probed.{probed};
 

@@ -1,9 +1,11 @@
 // A line of the trace program held in constant memory.
+#![tactic(auto)]
+
 ghost use Rattle.std.specs.Prelude.{◌≡◌, []};
 ghost use Rattle.texts.specs.Texts.{longer, text_of};
 
 // The first 32 bytes of a line, 0 past its end; the length 33 marks a longer line.
-#[derive(Drop)]
+#[derive(Clone, Copy)]
 pub struct Text {
     pub bytes: [u8; 32],
     pub length: u8,

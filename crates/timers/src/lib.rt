@@ -1,4 +1,6 @@
 // Elapsed and SYNC counts: when they run, when they reach their period, and what they are then.
+#![tactic(auto)]
+
 ghost use Rattle.std.specs.Prelude.{◌≡◌, cond, ◌&&◌};
 ghost use Rattle.rules.specs.State.{no_counts};
 ghost use Rattle.rules.specs.Time;

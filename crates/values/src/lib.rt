@@ -1,4 +1,6 @@
 // The number that an object reads as: one that no request changes, or a setting.
+#![tactic(auto)]
+
 ghost use Rattle.std.specs.Prelude.{◌≡◌};
 ghost use Rattle.rules.specs.declared.objects.PdoSetting.TheVariants.{On};
 ghost use Rattle.rules.specs.Reads.{mapping as mappingOf, fixed_value, pdo_value, setting_value};

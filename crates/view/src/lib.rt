@@ -1,4 +1,6 @@
 // What a service request may look at: the parts of the record that a read gives or a check asks.
+#![tactic(auto)]
+
 ghost use Rattle.std.specs.Prelude.{◌≡◌};
 ghost use Rattle.rules.specs.Settings.{axis_settings};
 ghost use Rattle.rules.specs.State.{reading};
@@ -9,7 +11,7 @@ use rules::objects::Axis;
 use rules::parts::{Identity, Reading, Transfer};
 use rules::settings::{AxisSettings, Settings};
 
-#[derive(Drop)]
+#[derive(Clone, Copy)]
 pub struct View {
     pub node: u8,
     pub identity: Identity,
