@@ -52,6 +52,7 @@ fn refuse(request: [u8; 8], code: u32) -> Outcome
     said(replies::reply(0x80, request, code), states::ABSENT)
 }
 
+#[tactic(auto, unfolding(rules::specs::Service::on_segment))]
 fn segment(toggle: u8, transfer: Transfer) -> Outcome
     ensures { result ≡ on_segment toggle transfer }
 {
