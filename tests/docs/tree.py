@@ -5,7 +5,7 @@ import pathlib
 import re
 
 ROOT = pathlib.Path(__file__).resolve().parents[2]
-NOT_THE_TREE = {".git", "target", "__pycache__"}
+NOT_THE_TREE = {".git", "target", "out", "__pycache__"}
 THEOREM = r"^ *(?:abbrev |unfoldable )?(?:pub )?(?:(?:record|data) {0} |{0} (?:{{.}} )?: )"
 ITEM = r"\b(?:fn|enum|struct|const|mod) {0}\b"
 FIELD = r"^ *(?:pub )?{0}: "
