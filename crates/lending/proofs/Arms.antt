@@ -7,11 +7,11 @@ use Prim.Native.Nat.{ℕ}
 use mathlib.Core.List.{[], ◌∷◌, List}
 use lib.ListN.{length}
 use seplogic.Ra.Ura.{Ura}
-use seplogic.Ra.TreeShare.{full_share}
-use mir.Syntax.{Sym, Name, Ty, Tys, Written, Fn, Body, Arms, ty_struct, ty_int, tcons, tnil, w8, assign, seq, call, switch, arm, default, return, place, deref, field, copy, rv_opd}
+use base.Fraction.{full_share}
+use mir.Syntax.{Sym, Callee, Ty, Tys, Written, Fn, Body, Arms, ty_struct, ty_int, tcons, tnil, w8, assign, seq, call, switch, arm, default, return, place, deref, field, copy, rv_opd}
 use mir.Val.{Val, Vals, of_list, vint, vstruct, vcons, vnil}
 use base.Logic.{SProp, ent, emp}
-use base.Fml.{Fml, fat}
+use base.Fml.{Fml, Lft, fat}
 use base.Stored.{Coded}
 use prog.Model.{Model}
 use prog.Routine.{Routine, Env}
@@ -49,8 +49,10 @@ pub record Begun : Type 2 where
   pub τs : Tys
   pub written : Written
   pub reaches : List (Written × List Ty)
+  pub lives : Lft
   pub own : D → List Val → Fml
   pub coded : Coded D
+  pub shr_at : D → ℕ → ℕ → Lft → Fml
   pub number : D → ℕ
   pub rest : D → Vals
 
@@ -60,8 +62,10 @@ begun_row B = record {
   mir = ty_struct B.name (tcons (ty_int w8) B.τs);
   written = B.written;
   reaches = B.reaches;
-  own_val = B.own;
+  lives = B.lives;
+  own = B.own;
   coded = B.coded;
+  shr_at = B.shr_at;
   val = λ x. vstruct (vcons (vint w8 (B.number x)) (B.rest x));
 }
 
@@ -81,8 +85,10 @@ struct_begun T L number = record {
   τs = rest-types (to_tys (mirs (fields T)));
   written = (row T).written;
   reaches = (row T).reaches;
-  own = (row T).own;
+  lives = (row T).lives;
+  own = (row T).own_val;
   coded = (row T).coded;
+  shr_at = (row T).shr_at;
   number = number;
   rest = λ x. rest-vals (of_list (flat (fields T) (valss (fields T) (laws.spells T.parts L) (T.to x))));
 }
@@ -97,7 +103,7 @@ module _ (T : Types) (B : Begun) where
   -- an arm: its number, its step's name, what the step asks and what it returns
   pub record Arm : Type 1 where
     pub key : ℕ
-    pub callee : Name
+    pub callee : Callee
     pub ready : T.Dr.D → X → Ask
     pub alone : T.Dr.D → X → T.RS.Denot
 
@@ -105,24 +111,24 @@ module _ (T : Types) (B : Begun) where
   abbrev shape : Shape
   shape = record { T = T; Xr = begun_row B; τ₄ = T.Dr.mir; τ₅ = τS T; τ₆ = ty_int w8 }
 
-  abbrev arm_body : Name → Body
+  abbrev arm_body : Callee → Body
   arm_body step = seq (assign (place 4 []) (rv_opd (copy (place 1 (deref T.Dr.mir ∷ [])))))
       (seq (call step (copy (place 4 []) ∷ copy (place 3 []) ∷ []) (place 5 []))
       (seq (assign (place 1 (deref T.Dr.mir ∷ [])) (rv_opd (copy (place 5 (field 0 ∷ [])))))
       (seq (assign (place 0 []) (rv_opd (copy (place 5 (field 1 ∷ [])))))
       return)))
 
-  abbrev other_body : Name → Body
+  abbrev other_body : Callee → Body
   other_body other = pass_on shape other 3
 
-  abbrev arms_of : List Arm → Name → Arms
+  abbrev arms_of : List Arm → Callee → Arms
   arms_of [] other = default (other_body other)
   arms_of (k ∷ ks) other = arm (k.key ∷ []) (arm_body k.callee) (arms_of ks other)
 
-  abbrev body_of : List Arm → Name → Body
+  abbrev body_of : List Arm → Callee → Body
   body_of ks other = seq (assign (place 6 []) (rv_opd (copy (place 3 (field 0 ∷ []))))) (seq (switch (copy (place 6 [])) (arms_of ks other)) return)
 
-  abbrev pub function : List Arm → Name → Fn
+  abbrev pub function : List Arm → Callee → Fn
   function ks other = passing shape (body_of ks other)
 
   -- ---- the contract of a step
@@ -210,7 +216,7 @@ module _ (T : Types) (B : Begun) where
             forget ! 3 refl $ forget ! 5 refl $ forget ! 7 refl $ forget ! 9 refl $ forget ! 11 refl $ forget ! 13 refl $ forget ! 15 refl $ freed En $
             by ! (exits p 𝓛 e known (T.answer r) (T.device r) (held e) (out (T.answer r)) (known.answer_is r v is') refl (so said (serves.agrees (was e) (held e) (third e) pre at))))))
 
-        module _ (asked : T.Dr.D → List ℕ → X → Ask) (other : Name) (met : Triple 𝓤 (C other) (Lent (elsewhere asked) 𝓛)) where
+        module _ (asked : T.Dr.D → List ℕ → X → Ask) (other : Callee) (met : Triple 𝓤 (C other) (Lent (elsewhere asked) 𝓛)) where
           in_other : Asked (asked (was e) (held e) (third e)) → Sq 𝓛 Before (runs C Λ En (other_body other) then)
           in_other allowed = passes_on shape 𝓛 C Λ e room p (elsewhere asked) known fm other met (third e) of_act is-act allowed (λ r d zs said. said)
               b 3 [] [] (vint w8 (B.number (third e)) ∷ []) then refl (load ! (from ! (stop !)) (look ! 7 refl))
@@ -219,7 +225,7 @@ module _ (T : Types) (B : Begun) where
           by_arms [] N serve allows = λ n. in_other (allows n tt)
           by_arms (k ∷ ks) N serve allows = (λ at. in_arm k serve.0 at, by_arms ks (N × (B.number (third e) ≡ k.key → ⊥)) serve.1 (λ n differs. allows n.0 (n.1, differs)))
 
-      walk : (ks : List Arm) → AllServe 𝓛 C ks → (asked : T.Dr.D → List ℕ → X → Ask) (other : Name) → Triple 𝓤 (C other) (Lent (elsewhere asked) 𝓛)
+      walk : (ks : List Arm) → AllServe 𝓛 C ks → (asked : T.Dr.D → List ℕ → X → Ask) (other : Callee) → Triple 𝓤 (C other) (Lent (elsewhere asked) 𝓛)
           → (Differs ks (B.number (third e)) → Asked (asked (was e) (held e) (third e)))
           → ent 𝓤 (⋆ 𝓛 (Record e 𝓤 (was e) ∷ Journal e 𝓤 ∷ Tokens e 𝓤 ∷ [])) (WpFn 𝓤 H C Λ (function ks other) (passed e) End)
       walk ks serve asked other met allows =
@@ -230,7 +236,7 @@ module _ (T : Types) (B : Begun) where
     -- the function named n meets its contract
     pub meets : {M : Type 1} {𝓤 : Ura M} (𝓛 : Logic 𝓤) (𝓜 : Model 𝓤 𝓛.H) (𝓡 : Running 𝓤 𝓛.H 𝓜) (env : Env) → Known 𝓛 T → Told 𝓛 (begun_row B)
         → (asked : T.Dr.D → List ℕ → X → Ask) (ks : List Arm) → ((d : T.Dr.D) (j : List ℕ) (x : X) → Asked (p.asks d j x) → Differs ks (B.number x) → Asked (asked d j x))
-        → (n other : Name) → Closed 𝓤 𝓛.H (tables 𝓤 𝓛.H 𝓜 𝓡 env).C (tables 𝓤 𝓛.H 𝓜 𝓡 env).Λ n (function ks other) → AllServe 𝓛 (tables 𝓤 𝓛.H 𝓜 𝓡 env).C ks
+        → (n other : Callee) → Closed 𝓤 𝓛.H (tables 𝓤 𝓛.H 𝓜 𝓡 env).C (tables 𝓤 𝓛.H 𝓜 𝓡 env).Λ n (function ks other) → AllServe 𝓛 (tables 𝓤 𝓛.H 𝓜 𝓡 env).C ks
         → {r : Routine} → env other ≡ r → Triple 𝓤 (𝓡.run r) (Lent (elsewhere asked) 𝓛) → Triple 𝓤 (𝓡.run (env n)) (Lent p 𝓛)
     meets {𝓤 = 𝓤} 𝓛 𝓜 𝓡 env known of_act asked ks allows n other closed serve at met = lent.meets p 𝓛 𝓜 𝓡 env of_act n (function ks other) closed
         (λ fm e room is pre. walk 𝓛 known of_act (tables 𝓤 𝓛.H 𝓜 𝓡 env).C (tables 𝓤 𝓛.H 𝓜 𝓡 env).Λ fm e room is pre ks serve asked other

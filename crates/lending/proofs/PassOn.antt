@@ -6,7 +6,7 @@ use Prim.Native.Nat.{ℕ}
 use mathlib.Core.List.{[], ◌∷◌, List}
 use lib.ListN.{length}
 use seplogic.Ra.Ura.{Ura}
-use mir.Syntax.{Name, Ty, Fn, Body, ty_ref, ty_int, w8, mut, named, erased, assign, seq, call, return, place, deref, field, copy, addr_of, aggregate}
+use mir.Syntax.{Callee, Ty, Fn, Body, ty_ref, ty_int, w8, mut, named, erased, assign, seq, call, return, place, deref, field, copy, addr_of, aggregate}
 use mir.Val.{Val}
 use base.Logic.{SProp, ent}
 use prog.Wp.{Calls, Loops, WpFn, returns as returned, at_return}
@@ -18,8 +18,8 @@ use types.Part.{agg, whole, sub, look_in}
 use denote.Laws.{Is}
 use denote.Memory.{pointee}
 use denote.Builtin.{u8}
-use denote.Ref.{shr_vals}
-use denote.Slice.{Room, slice_ty, shr_slice_vals}
+use denote.Ref.{mut_vals}
+use denote.Slice.{Room, slice_ty, mut_slice_vals}
 use denote.Triple.Statement.{Triple}
 use denote.Triple.Call.{calls_at}
 use Rattle.lending.proofs.Lent.{Row, row_of, Types, env_of, locals_of, cells, empties, freed, Told, Known, Asked, Promise, Entry, was, held, third, passed, Said, Record, Journal, Tokens, Post as PostOf, Lent, bound, asks, gives, exits}
@@ -60,10 +60,10 @@ module _ (F : Shape) where
       ∷ ty_ref erased mut (pointee T.Dr.written) ∷ ty_ref erased mut bytes ∷ slice_ty (ty_ref erased mut bytes) ∷ []
 
   abbrev pub passing : Body → Fn
-  passing body = record { lifetimes = 2; outlives = []; params = 3; locals = locals_of kinds; body = body }
+  passing body = record { lifetimes = 2; outlives = []; ty_params = []; givens = 0; params = 3; locals = locals_of kinds; body = body }
 
   -- the end: f is called with the record's and the list's references, made anew, and with the local n
-  abbrev pub pass_on : Name → ℕ → Body
+  abbrev pub pass_on : Callee → ℕ → Body
   pass_on f n = seq (assign (place 7 []) (addr_of (place 1 (deref T.Dr.mir ∷ []))))
       (seq (assign (place 8 []) (addr_of (place 2 (field 0 ∷ deref bytes ∷ []))))
       (seq (assign (place 9 []) (aggregate (copy (place 8 []) ∷ copy (place 2 (field 1 ∷ [])) ∷ [])))
@@ -76,13 +76,13 @@ module _ (F : Shape) where
   module _ {M : Type 1} (𝓤 : Ura M) (e : Entry T Xr) (b : Blocks) where
     -- the locals, with vs₄, vs₅ and vs₆ in the function's own and ws in those after them; what there is on the way; and what there is where f is called, which asks P
     abbrev Locals : List Val → List Val → List Val → List (List Val) → List (Item 𝓤)
-    Locals vs₄ vs₅ vs₆ ws = cells (En b) ([] ∷ shr_vals e.a.0 ∷ shr_slice_vals e.a.1.0 ∷ (Xr.val (third e) ∷ []) ∷ vs₄ ∷ vs₅ ∷ vs₆ ∷ ws)
+    Locals vs₄ vs₅ vs₆ ws = cells (En b) ([] ∷ mut_vals e.a.0 ∷ mut_slice_vals e.a.1.0 ∷ (Xr.val (third e) ∷ []) ∷ vs₄ ∷ vs₅ ∷ vs₆ ∷ ws)
 
     abbrev pub AtHand : List Val → List Val → List Val → List (Item 𝓤)
     AtHand vs₄ vs₅ vs₆ = Record e 𝓤 (was e) ∷ Journal e 𝓤 ∷ Tokens e 𝓤 ∷ Locals vs₄ vs₅ vs₆ []
 
     abbrev pub AtCall : SProp 𝓤 → List Val → List Val → List Val → List (Item 𝓤)
-    AtCall P vs₄ vs₅ vs₆ = raw P ∷ Locals vs₄ vs₅ vs₆ (shr_vals e.a.0 ∷ shr_vals e.a.1.0 ∷ shr_slice_vals e.a.1.0 ∷ [])
+    AtCall P vs₄ vs₅ vs₆ = raw P ∷ Locals vs₄ vs₅ vs₆ (mut_vals e.a.0 ∷ mut_vals e.a.1.0 ∷ mut_slice_vals e.a.1.0 ∷ [])
 
   module _ {M : Type 1} {𝓤 : Ura M} (𝓛 : Logic 𝓤) (C : Calls 𝓤 𝓛.H) (Λ : Loops 𝓤 𝓛.H) (e : Entry T Xr) (room : Room u8 (length (held e))) where
     -- how it begins
@@ -98,7 +98,7 @@ module _ (F : Shape) where
         k (record { l₀ = l₀; l₁ = l₁; l₂ = l₂; l₃ = l₃; l₄ = l₄; l₅ = l₅; l₆ = l₆; l₇ = l₇; l₈ = l₈; l₉ = l₉ })))))))))))
 
     -- how it passes on: y is in the local n
-    module _ {Yr : Row} (p : Promise T Xr) (p' : Promise T Yr) (known : Known 𝓛 T) (fm : FmC 𝓤 H 𝓛.laws C) (f : Name) (met : Triple 𝓤 (C f) (Lent p' 𝓛)) (y : Yr.D) where
+    module _ {Yr : Row} (p : Promise T Xr) (p' : Promise T Yr) (known : Known 𝓛 T) (fm : FmC 𝓤 H 𝓛.laws C) (f : Callee) (met : Triple 𝓤 (C f) (Lent p' 𝓛)) (y : Yr.D) where
       abbrev pub onward : Entry T Yr
       onward = record { κs = e.κs; qs = e.qs; a = (e.a.0, (e.a.1.0, (y, tt))) }
 
