@@ -41,7 +41,7 @@ use Rattle.lending.proofs.PassOn.{Shape, En, passing, pass_on, starts, passes_on
 module _ {T : Types} {Hr Xr : Row} (p : Promise T Hr) (p' : Promise T Xr) (Needs : T.Dr.D → ℕ → Hr.D → Ask) (Decided : T.Dr.D → ℕ → Hr.D → Xr.D → Type 0) where
   -- ---- the code: the record is in _4, the act in _5, and the length in _6
   abbrev shape : Shape
-  shape = record { T = T; Xr = Hr; τ₄ = T.Dr.mir; τ₅ = Xr.mir; τ₆ = ty_int w64 }
+  shape = record { T = T; Xr = Hr; τ₄ = T.Dr.mir; τ₅ = Xr.mir; τ₆ = ty_int w64; row = [] }
 
   abbrev body_of : Callee → Callee → Body
   body_of decide perform = seq (assign (place 4 []) (rv_opd (copy (place 1 (deref T.Dr.mir ∷ [])))))
