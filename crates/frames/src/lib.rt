@@ -149,6 +149,7 @@ fn bit(set: bool, value: u8) -> u8
 }
 
 // Bit 7 is the journal's, bit 5 the axes', bit 0 is set with either.
+#[tactic(auto, unfolding(rules::specs::Errors::register))]
 pub fn register(spoiled: u8, x: u32, y: u32) -> u8
     ensures { result ≡ Errors.register spoiled x y }
 {

@@ -19,10 +19,7 @@ pub and-false : (a : Bool) → a && false ≡ false
 and-false true = refl
 and-false false = refl
 
--- outside a range
-pub under : (a b n : ℕ) → n < a → between a b n ≡ false
-under a b n h = rw (lt-leb a n h)
-
+-- above a range
 pub over : (a b n : ℕ) → b < n → between a b n ≡ false
 over a b n h = rw (lt-leb n b h, and-false)
 

@@ -25,6 +25,7 @@ pub fn byte_at(s: &[u8], i: usize) -> u8
 }
 
 // What a digit counts, 16 for a byte that is none.
+#[tactic(auto, unfolding(crate::specs::Numerals::digit_of))]
 pub fn digit(b: u8) -> u8
     ensures { result ≡ digit_of b }
 {
@@ -67,6 +68,7 @@ pub fn number_in(base: u64, s: &[u8]) -> Number
 }
 
 // Without leading zeros.
+#[tactic(auto, unfolding(crate::specs::Numerals::decimal_in))]
 pub fn decimal_in(s: &[u8]) -> Number
     ensures { result ≡ decimal_in s.now }
 {

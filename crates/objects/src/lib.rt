@@ -19,6 +19,7 @@ fn only(subindex: u8, o: Object) -> Found
     }
 }
 
+#[tactic(auto, unfolding(rules::specs::Objects::find))]
 fn error_list(subindex: u8) -> Found
     ensures { result ≡ object_at 0x1003 subindex }
 {
@@ -34,6 +35,7 @@ fn error_list(subindex: u8) -> Found
     Found::At(o)
 }
 
+#[tactic(auto, unfolding(rules::specs::Objects::find))]
 fn saving(subindex: u8) -> Found
     ensures { result ≡ object_at 0x1010 subindex }
 {
@@ -45,6 +47,7 @@ fn saving(subindex: u8) -> Found
     Found::At(o)
 }
 
+#[tactic(auto, unfolding(rules::specs::Objects::find))]
 fn loading(subindex: u8) -> Found
     ensures { result ≡ object_at 0x1011 subindex }
 {
@@ -56,6 +59,7 @@ fn loading(subindex: u8) -> Found
     Found::At(o)
 }
 
+#[tactic(auto, unfolding(rules::specs::Objects::find))]
 fn identity(subindex: u8) -> Found
     ensures { result ≡ object_at 0x1018 subindex }
 {
@@ -84,6 +88,7 @@ fn server(channel: Channel, subindex: u8) -> Found
 }
 
 // A PDO's settings.
+#[tactic(auto, unfolding(rules::specs::Objects::find))]
 fn pdo(number: PdoNumber, subindex: u8) -> Found
     ensures { result ≡ object_at (on_pdo number) subindex }
 {
@@ -97,6 +102,7 @@ fn pdo(number: PdoNumber, subindex: u8) -> Found
     Found::At(Object::Of(Setting::Pdo(number, part)))
 }
 
+#[tactic(auto, unfolding(rules::specs::Objects::find))]
 fn mapping(subindex: u8) -> Found
     ensures { result ≡ object_at 0x1A00 subindex }
 {

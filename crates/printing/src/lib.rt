@@ -14,6 +14,7 @@ const LINE_FEED: u8 = b'\n';
 
 const LETTER_R: u8 = b'R';
 
+#[tactic(auto, unfolding(crate::specs::Printing::capital))]
 fn digit(n: u8) -> u8
     requires { n < 16 }
     ensures { result ≡ capital n }
@@ -51,6 +52,7 @@ pub fn frame_text(f: Frame) -> Text
     text.with(LINE_FEED)
 }
 
+#[tactic(auto, unfolding(crate::specs::Printing::decimal))]
 fn with_number(text: Text, n: u8) -> Text
     ensures { result ≡ longer_by (decimal n) text }
 {

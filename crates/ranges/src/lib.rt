@@ -95,6 +95,7 @@ fn code_ok(length: u16, place: u16, code: u16) -> bool
     }
 }
 
+#[tactic(auto, unfolding(rules::specs::Ranges::errors_ok))]
 pub fn errors_ok(l: ErrorList) -> bool
     ensures { result ≡ errors_ok l }
 {
@@ -160,6 +161,7 @@ pub fn inside(m: i32) -> bool
     (-Reading::FARTHEST <= m) & (m <= Reading::FARTHEST)
 }
 
+#[tactic(auto, unfolding(rules::specs::Ranges::axis_ok))]
 pub fn axis_ok(x: Reading) -> bool
     ensures { result ≡ axis_ok x }
 {

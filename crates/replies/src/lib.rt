@@ -9,6 +9,7 @@ ghost use Rattle.rules.specs.Replies.{reply as replyOf, read_first, first_segmen
 use rules::aborts;
 
 // The first byte, the next three of the request that it replies to, and a number.
+#[tactic(auto, unfolding(rules::specs::Replies::reply))]
 pub fn reply(first: u8, to: [u8; 8], n: u32) -> [u8; 8]
     ensures { result ≡ replyOf first to n }
 {
@@ -65,6 +66,7 @@ pub fn last_segment() -> [u8; 8]
 }
 
 // What a segment gets that cannot be had: an abort that names an index, its low byte first, and subindex 0.
+#[tactic(auto, unfolding(rules::specs::Replies::reply))]
 fn refused_segment(low: u8, high: u8, code: u32) -> [u8; 8]
     ensures { result ≡ 0x80 ∷ low ∷ high ∷ 0 ∷ four code }
 {

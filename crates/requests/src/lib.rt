@@ -20,6 +20,7 @@ const WHOLE_REQUEST: u8 = 8;
 
 const LSS_REQUEST_AT: u32 = 0x7E5;
 
+#[tactic(auto, unfolding(rules::specs::Requests::command_of))]
 pub fn command(first: u8) -> Command
     ensures { result ≡ command_of first }
 {
@@ -44,6 +45,7 @@ fn two(low: u8, high: u8) -> u16
     (low as u16) + 256 * (high as u16)
 }
 
+#[tactic(auto, unfolding(rules::specs::Numbers::two_at))]
 pub fn index(request: [u8; 8]) -> u16
     ensures { result ≡ index_of request }
 {
@@ -66,6 +68,7 @@ fn four(first: u8, second: u8, third: u8, last: u8) -> u32
 }
 
 // The last four bytes as a number.
+#[tactic(auto, unfolding(rules::specs::Numbers::two_at, rules::specs::Numbers::four_at))]
 fn whole(request: [u8; 8]) -> u32
     ensures { result ≡ four_at request 4 }
 {
@@ -73,6 +76,7 @@ fn whole(request: [u8; 8]) -> u32
 }
 
 // The number that an LSS request selects by.
+#[tactic(auto, unfolding(rules::specs::Numbers::two_at, rules::specs::Numbers::four_at))]
 pub fn selector(request: [u8; 8]) -> u32
     ensures { result ≡ four_at request 1 }
 {

@@ -14,6 +14,7 @@ pub struct Text {
 impl Text {
     pub const MOST: u8 = 32;
 
+    #[tactic(auto, unfolding(crate::specs::Texts::text_of))]
     pub fn empty() -> Self
         ensures { result ≡ text_of [] }
     {

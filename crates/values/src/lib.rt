@@ -22,6 +22,7 @@ fn mapping(axis: Axis) -> u32
 }
 
 // The objects that no request changes.
+#[tactic(auto, unfolding(rules::specs::Reads::fixed_value))]
 pub fn fixed_value(f: Fixed, v: View) -> u32
     ensures { result ≡ fixed_value f (register_of (viewed v)) v.node v.identity v.blocks }
 {

@@ -1,0 +1,23 @@
+-- `pdo` meets its contract: settings within the table have a resolution that the angles of both axes go by.
+use Rattle.rules.proofs.Table.{setting_in}
+use Rattle.rules.specs.declared.objects.Setting.TheVariants.{Resolution}
+use Rattle.rules.specs.Frames.{pdo_frame}
+use Rattle.frames.proofs.pdo.Goals as goal
+
+pub shown_bits-first-requires : goal.shown_bits-first-requires
+shown_bits-first-requires c = (setting_in c.args.s c.requires.0 Resolution, c.requires.1.0)
+
+pub shown_bits-second-requires : goal.shown_bits-second-requires
+shown_bits-second-requires c = (setting_in c.args.s c.requires.0 Resolution, c.requires.1.1)
+
+pub returns : goal.returns
+unfolding pdo_frame
+returns c =
+    simp
+    (c.pdo_at.ensures,
+    c.low-x_low.ensures,
+    c.high-x_high.ensures,
+    c.low-y_low.ensures,
+    c.high-y_high.ensures,
+    c.shown_bits-first.ensures,
+    c.shown_bits-second.ensures)
