@@ -29,6 +29,7 @@ fn joined(first: Number, second: Number) -> Pair
     Pair::Not
 }
 
+#[tactic(auto, unfolding(crate::specs::Pairs::pair_in))]
 pub fn pair_in(word: &[u8]) -> Pair
     ensures { result ≡ pair_in word.now }
 {
