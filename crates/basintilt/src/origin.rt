@@ -15,6 +15,7 @@ pub struct Finding {
     pub kind: u32,
 }
 
+#[tactic(auto, unfolding(crate::specs::Traced::finding_of))]
 fn finding_of(brought: Brought) -> Finding
     ensures { result ≡ finding_of brought }
 {

@@ -7,11 +7,11 @@ use mathlib.Core.List.{[], ◌∷◌, List}
 use lib.Dec.{T as Holds}
 use lib.ListN.{length}
 use seplogic.Ra.Ura.{Ura}
-use seplogic.Ra.TreeShare.{full_share}
-use mir.Syntax.{Sym, Name, Fn, Local, local, value_local, Ty, Written, ty_struct, tcons, tnil, named}
+use base.Fraction.{full_share}
+use mir.Syntax.{Sym, Callee, Fn, Local, local, value_local, Ty, Written, ty_struct, tcons, tnil, named}
 use mir.Val.{Val, vptr, vstruct, vcons, vnil, WT, has_ty}
 use base.Logic.{SProp, ent, sep, ex, emp, via, id⊢, mono_l, fst∗, emp∗, comm∗}
-use base.Fml.{Fml, ftrue, fat, froom, fdies, flft, fobs, fauth, fobor, fres}
+use base.Fml.{Fml, Lft, ftrue, fat, froom, fdies, flft, fobs, fauth, fbor, fobor, fres, fsep}
 use base.Stored.{Coded}
 use prog.Model.{Model}
 use prog.Routine.{Env}
@@ -22,7 +22,8 @@ use contract.Lifetimes.{Lfts, Shares}
 use contract.Running.{Running, tables, tables_of}
 use types.Kit.{Item, Goal, Soaks, Sq, mean, nth, del, put, pull, fill, Step, Go, step, prop, frees, ‵, raw, some, later, ◌⊛◌, ⋆, ◌$◌, ◌∵◌, !, qed, move, keep, drop, use1, split, join, pick, fsplit, fsplit3, fjoin, fjoin3, feq_l, feq_i, suffices, frame, await, done}
 use types.Run.{free1, free0}
-use types.SemTy.{Body}
+use types.SemTy.{Body, Arr}
+use types.Hole.{Holey}
 use sound.WpLaws.{FmC, fm_of, WpFn-mono}
 use denote.RattleType.{RattleType, owns}
 use denote.Laws.{Is, Tells, Makes, shows}
@@ -51,16 +52,18 @@ pub record Row : Type 2 where
   pub mir : Ty
   pub written : Written
   pub reaches : List (Written × List Ty)
+  pub lives : Lft
   pub own : D → List Val → Fml
   pub coded : Coded D
+  pub shr_at : D → ℕ → ℕ → Lft → Fml
   pub val : D → Val
 
 abbrev pub row_of : Row → RattleType
-row_of R = record { Denot = R.D; mir = R.mir ∷ []; written = R.written; reaches = R.reaches; own_val = R.own; exit = λ k. unchanged; coded = R.coded }
+row_of R = record { Denot = R.D; mir = R.mir ∷ []; written = R.written; reaches = R.reaches; lives = R.lives; own_val = R.own; exit = λ k. unchanged; coded = R.coded; shr_at = R.shr_at }
 
 -- a declared struct's
 abbrev pub struct_row : (T : Declared) → laws.Laws T → Row
-struct_row T L = record { D = T.D; mir = layout (shape T); written = (row T).written; reaches = (row T).reaches; own_val = (row T).own; coded = (row T).coded; val = laws.val T L }
+struct_row T L = record { D = T.D; mir = layout (shape T); written = (row T).written; reaches = (row T).reaches; lives = (row T).lives; own = (row T).own_val; coded = (row T).coded; shr_at = (row T).shr_at; val = laws.val T L }
 
 -- a machine value has a MIR type
 abbrev pub Has : Ty → Val → Type 0
@@ -173,7 +176,7 @@ module _ {T : Types} {Xr : Row} (e : Entry T Xr) where
   vals = (mut_vals e.a.0, (mut_slice_vals e.a.1.0, (Xr.val third ∷ [], tt)))
 
   abbrev pub passed : List Val
-  passed = vptr e.a.0.ptr.0 e.a.0.ptr.1 ∷ slice_val e.a.1.0.ptr (length held) ∷ Xr.val third ∷ []
+  passed = vptr e.a.0.ref_ptr.0 e.a.0.ref_ptr.1 ∷ slice_val e.a.1.0.ref_ptr (length held) ∷ Xr.val third ∷ []
 
   -- what is promised of the answer r, the record d and the journal zs
   abbrev pub Said : Promise T Xr → T.Nr.D → T.Dr.D → List ℕ → Type 0
@@ -194,53 +197,53 @@ module _ {T : Types} {Xr : Row} (e : Entry T Xr) where
     abbrev pub Journal : Item 𝓤
     Journal = ‵ ((MutSlice (named 1) e.κs.1.0 u8).own_val e.a.1.0 (mut_slice_vals e.a.1.0))
 
-    -- what says their last values
+    -- what says their last values, with their borrows, closed
     abbrev pub RecordThen : T.Dr.D → Item 𝓤
-    RecordThen d = ‵ (fres e.a.0.name (T.Dr.coded.code d))
+    RecordThen d = ‵ (fsep (fres e.a.0.ghost_name (T.Dr.coded.code d)) (fbor e.κs.0 (Body (mem (RD T)) e.a.0.ref_ptr.0 e.a.0.ref_ptr.1 e.a.0.ghost_name)))
 
     abbrev pub JournalThen : List ℕ → Item 𝓤
-    JournalThen zs = ‵ (finally u8 e.a.1.0.name zs)
+    JournalThen zs = ‵ (fsep (finally u8 e.a.1.0.ghost_name zs) (fbor e.κs.1.0 (Body (Arr (Holey (mem u8)) (length held)) e.a.1.0.ref_ptr.0 e.a.1.0.ref_ptr.1 e.a.1.0.ghost_name)))
 
     -- the record's cell, and its open borrow
     abbrev pub Cell : T.Dr.D → Item 𝓤
-    Cell d = ‵ (cell_at full_share (RD T).mir (T.Dr.val d ∷ []) e.a.0.ptr.0 e.a.0.ptr.1)
+    Cell d = ‵ (cell_at full_share (RD T).mir (T.Dr.val d ∷ []) e.a.0.ref_ptr.0 e.a.0.ref_ptr.1)
 
     abbrev pub Opened : Item 𝓤
-    Opened = (‵ (fobor e.κs.0 e.qs.0 (Body (mem (RD T)) e.a.0.ptr.0 e.a.0.ptr.1 e.a.0.name))
-        ⊛ ‵ (fobs e.a.0.name (T.Dr.coded.code was)) ⊛ ‵ (fauth e.a.0.name (T.Dr.coded.code was))) ⊛ Token
+    Opened = (‵ (fobor e.κs.0 e.qs.0 (Body (mem (RD T)) e.a.0.ref_ptr.0 e.a.0.ref_ptr.1 e.a.0.ghost_name))
+        ⊛ ‵ (fobs e.a.0.ghost_name (T.Dr.coded.code was)) ⊛ ‵ (fauth e.a.0.ghost_name (T.Dr.coded.code was))) ⊛ Token
 
 module _ {T : Types} {Xr : Row} {M : Type 1} {𝓤 : Ura M} {𝓛 : Logic 𝓤} {Γ : List (Item 𝓤)} {G : Goal 𝓤 𝓛.H} where
   pub spends_record : (e : Entry T Xr) (d : T.Dr.D) → Step (Go {0}) 𝓛 (RecordThen e 𝓤 d ∷ Γ) G (Record e 𝓤 d ∷ Γ) G
-  spends_record e d = step (λ s. fsplit3 ! $ drop ! $ use1 𝓛 (RecordThen e 𝓤 d) (𝓛.names.obs-res e.a.0.name (T.Dr.coded.code d)) $ move ! (1 ∷ []) $ drop ! $ s)
+  spends_record e d = step (λ s. fsplit3 ! $ drop ! $ use1 𝓛 (‵ (fres e.a.0.ghost_name (T.Dr.coded.code d))) (𝓛.names.obs-res e.a.0.ghost_name (T.Dr.coded.code d)) $ fjoin ! $ s)
 
   pub spends_journal : (e : Entry T Xr) → Step (Go {0}) 𝓛 (JournalThen e 𝓤 (held e) ∷ Γ) G (Journal e 𝓤 ∷ Γ) G
   spends_journal e = step (λ s.
       fsplit ! $ drop ! $ fsplit ! $
-      use1 𝓛 (‵ (fres e.a.1.0.name ((coded_holeys u8).code (heres u8 (held e))))) (𝓛.names.obs-res e.a.1.0.name ((coded_holeys u8).code (heres u8 (held e)))) $
-      use1 𝓛 (JournalThen e 𝓤 (held e)) (res-finally 𝓛 (named 1) e.κs.1.0 u8 e.a.1.0.name (held e)) $ move ! (1 ∷ []) $ drop ! $ s)
+      use1 𝓛 (‵ (fres e.a.1.0.ghost_name ((coded_holeys u8).code (heres u8 (held e))))) (𝓛.names.obs-res e.a.1.0.ghost_name ((coded_holeys u8).code (heres u8 (held e)))) $
+      use1 𝓛 (‵ (finally u8 e.a.1.0.ghost_name (held e))) (res-finally 𝓛 (named 1) e.κs.1.0 u8 e.a.1.0.ghost_name (held e)) $ fjoin ! $ s)
 
   -- the borrow of the record is opened, and closed at the record d
   module _ (known : Known 𝓛 T) (e : Entry T Xr) (soaks : Soaks G) where
     pub opened : (Is (RD T) (was e) (T.Dr.val (was e) ∷ []) → Sq 𝓛 (Cell e 𝓤 (was e) ∷ Opened e 𝓤 ∷ Γ) G) → Sq 𝓛 (Record e 𝓤 (was e) ∷ Tokens e 𝓤 ∷ Γ) G
     opened k =
         fsplit3 ! $ drop ! $ move ! (2 ∷ []) $ split ! $ move ! (2 ∷ 3 ∷ 0 ∷ []) $
-        opens ! soaks (RD T) {h = was e} e.a.0.ptr.0 e.a.0.ptr.1 (λ vs.
-        spelt ! (RD T) (Is (RD T)) (shows 𝓛 (RD T)) (λ d. T.Dr.val d ∷ []) known.of_record.tells full_share (was e) vs e.a.0.ptr.0 e.a.0.ptr.1 $
+        opens ! soaks (RD T) {h = was e} e.a.0.ref_ptr.0 e.a.0.ref_ptr.1 (λ vs.
+        spelt ! (RD T) (Is (RD T)) (shows 𝓛 (RD T)) (λ d. T.Dr.val d ∷ []) known.of_record.tells full_share (was e) vs e.a.0.ref_ptr.0 e.a.0.ref_ptr.1 $
         move ! (1 ∷ []) $ facts ! (RD T) (Is (RD T)) (shows 𝓛 (RD T)) (was e) (T.Dr.val (was e) ∷ []) (λ is.
         move ! (2 ∷ 3 ∷ []) $ join ! $ move ! (2 ∷ 0 ∷ []) $ join ! $ move ! (0 ∷ 2 ∷ []) $ join ! $ move ! (1 ∷ 0 ∷ []) $ k is))
 
     pub closed : (d : T.Dr.D) → Is (RD T) d (T.Dr.val d ∷ []) → Step (Go {0}) 𝓛 (Record e 𝓤 d ∷ Tokens e 𝓤 ∷ Γ) G (Cell e 𝓤 d ∷ Opened e 𝓤 ∷ Γ) G
     closed d is = step (λ s.
         move ! (1 ∷ []) $ split ! $ split ! $ move ! (1 ∷ []) $ split ! $ owned ! (RD T) (Is (RD T)) known.of_record.makes d _ is $ move ! (5 ∷ 0 ∷ 3 ∷ 1 ∷ 2 ∷ []) $
-        closes ! soaks (RD T) d (T.Dr.val d ∷ []) e.a.0.ptr.0 e.a.0.ptr.1 $
+        closes ! soaks (RD T) d (T.Dr.val d ∷ []) e.a.0.ref_ptr.0 e.a.0.ref_ptr.1 $
         feq_i ! (List Val) (mut_vals e.a.0) (mut_vals e.a.0) refl $ fjoin3 ! $ move ! (1 ∷ 2 ∷ []) $ join ! $ move ! (1 ∷ 0 ∷ []) $ s)
 
 -- what a call of a function that is lent nothing gives: a result r, of which F holds. L is what its contract says of last values, of which there are none
 pub returned : {M : Type 1} {𝓤 : Ura M} {𝓛 : Logic 𝓤} {Γ : List (Item 𝓤)} {G : Goal 𝓤 𝓛.H} (R : RattleType) (F : R.Denot → Type 0) {Ws : Type 0} (L : Ws → Fml) → Soaks G → (v : Val)
     → ((r : R.Denot) → Is R r (v ∷ []) → F r → Sq 𝓛 Γ G)
-    → Sq 𝓛 (raw (𝓛.H.⇛ (ex 𝓤 (λ (r : R.Denot). sep 𝓤 (sep 𝓤 (emp 𝓤) (sem 𝓛 (R.own r (v ∷ [])))) (ex 𝓤 (λ (ws : Ws). sep 𝓤 (sem 𝓛 (L ws)) (fact 𝓤 (F r))))))) ∷ Γ) G
+    → Sq 𝓛 (raw (𝓛.H.⇛ (ex 𝓤 (λ (r : R.Denot). sep 𝓤 (sep 𝓤 (emp 𝓤) (sem 𝓛 (R.own_val r (v ∷ [])))) (ex 𝓤 (λ (ws : Ws). sep 𝓤 (sem 𝓛 (L ws)) (fact 𝓤 (F r))))))) ∷ Γ) G
 returned {𝓤 = 𝓤} {𝓛 = 𝓛} R F {Ws} L soaks v k =
-    use1 𝓛 (later (some (λ (r : R.Denot). (‵ ftrue ⊛ ‵ (R.own r (v ∷ []))) ⊛ some (λ (ws : Ws). ‵ (L ws) ⊛ raw (fact 𝓤 (F r)))))) (id⊢ 𝓤 _) $ await ! soaks $ pick ! (λ r.
+    use1 𝓛 (later (some (λ (r : R.Denot). (‵ ftrue ⊛ ‵ (R.own_val r (v ∷ []))) ⊛ some (λ (ws : Ws). ‵ (L ws) ⊛ raw (fact 𝓤 (F r)))))) (id⊢ 𝓤 _) $ await ! soaks $ pick ! (λ r.
     split ! $ move ! (1 ∷ []) $ pick ! (λ ws. split ! $ drop ! $ heard ! (F r) (λ said. split ! $ drop ! $ facts ! R (Is R) (shows 𝓛 R) r (v ∷ []) (λ is. k r is said))))
 
 -- the locals, at the types τs and the blocks bs, and how they are freed
@@ -311,9 +314,9 @@ module _ {T : Types} {Xr : Row} (p : Promise T Xr) where
         → ((r : T.Nr.D) (d : T.Dr.D) (zs : List ℕ) → Is (RN T) r (v ∷ []) → length zs ≡ length (held e) → Said e p r d zs → Sq 𝓛 (RecordThen e 𝓤 d ∷ JournalThen e 𝓤 zs ∷ Tokens e 𝓤 ∷ Γ) G)
         → Sq 𝓛 (raw ((Lent 𝓛).post (bound 𝓛 e) v) ∷ Γ) G
     gives e soaks v k =
-        use1 𝓛 (later (some (λ (r : T.Nr.D). (Tokens e 𝓤 ⊛ ‵ ((RN T).own r (v ∷ []))) ⊛ raw (ensured 𝓛 (lent_ended T Xr) (lent_clauses 𝓤) e.κs e.a tt r)))) (id⊢ 𝓤 _) $ await ! soaks $ pick ! (λ r.
+        use1 𝓛 (later (some (λ (r : T.Nr.D). (Tokens e 𝓤 ⊛ ‵ ((RN T).own_val r (v ∷ []))) ⊛ raw (ensured 𝓛 (lent_ended T Xr) (lent_clauses 𝓤) e.κs e.a tt r)))) (id⊢ 𝓤 _) $ await ! soaks $ pick ! (λ r.
         split ! $ move ! (1 ∷ []) $ use1 𝓛 (some (λ (zs : T.Dr.D × (List ℕ × (Unit {0} × Unit {0}))). ‵ (lasts (lent_ended T Xr) e.κs e.a zs) ⊛ raw (fact 𝓤 (Said e p r zs.0 zs.1.0)))) (id⊢ 𝓤 _) $ pick ! (λ zs.
-        split ! $ move ! (1 ∷ []) $ heard ! (Said e p r zs.0 zs.1.0) (λ said. fsplit ! $ move ! (1 ∷ []) $ fsplit ! $ fsplit ! $ move ! (1 ∷ []) $ feq_l ! (λ l.
+        split ! $ move ! (1 ∷ []) $ heard ! (Said e p r zs.0 zs.1.0) (λ said. fsplit ! $ move ! (1 ∷ []) $ fsplit ! $ fsplit ! $ fsplit ! $ move ! (1 ∷ []) $ feq_l ! (λ l. fjoin ! $
         move ! (3 ∷ []) $ split ! $ move ! (1 ∷ []) $ facts ! (RN T) (Is (RN T)) (shows 𝓛 (RN T)) r (v ∷ []) (λ is.
         move ! (2 ∷ []) $ drop ! $ move ! (2 ∷ 1 ∷ 0 ∷ []) $ k r zs.0 zs.1.0 is l said)))))
 
@@ -349,7 +352,7 @@ module _ {T : Types} {Xr : Row} (p : Promise T Xr) where
   module _ {M : Type 1} {𝓤 : Ura M} (𝓛 : Logic 𝓤) (𝓜 : Model 𝓤 𝓛.H) (𝓡 : Running 𝓤 𝓛.H 𝓜) (env : Env) where
     open 𝓛 use {H}
 
-    pub meets : Told 𝓛 Xr → (k : Name) (f : Fn) → Closed 𝓤 H (tables 𝓤 H 𝓜 𝓡 env).C (tables 𝓤 H 𝓜 𝓡 env).Λ k f
+    pub meets : Told 𝓛 Xr → (k : Callee) (f : Fn) → Closed 𝓤 H (tables 𝓤 H 𝓜 𝓡 env).C (tables 𝓤 H 𝓜 𝓡 env).Λ k f
         → (FmC 𝓤 H 𝓛.laws (tables 𝓤 H 𝓜 𝓡 env).C → (e : Entry T Xr) → Room u8 (length (held e)) → Is (row_of Xr) (third e) (Xr.val (third e) ∷ []) → Asked (p.asks (was e) (held e) (third e))
         → ent 𝓤 (⋆ 𝓛 (Record e 𝓤 (was e) ∷ Journal e 𝓤 ∷ Tokens e 𝓤 ∷ [])) (WpFn 𝓤 H (tables 𝓤 H 𝓜 𝓡 env).C (tables 𝓤 H 𝓜 𝓡 env).Λ f (passed e) (Post 𝓛 e)))
         → Triple 𝓤 (𝓡.run (env k)) (Lent 𝓛)

@@ -7,8 +7,8 @@ use Prim.Native.Nat.{ℕ}
 use mathlib.Core.List.{[], ◌∷◌, List}
 use lib.ListN.{length}
 use seplogic.Ra.Ura.{Ura}
-use seplogic.Ra.TreeShare.{full_share}
-use mir.Syntax.{Name, Fn, Body, ty_int, w64, assign, seq, call, place, deref, field, copy, rv_opd}
+use base.Fraction.{full_share}
+use mir.Syntax.{Callee, Fn, Body, ty_int, w64, assign, seq, call, place, deref, field, copy, rv_opd}
 use mir.Val.{Val, vint}
 use base.Logic.{ent, emp}
 use base.Fml.{fat}
@@ -41,15 +41,15 @@ use Rattle.lending.proofs.PassOn.{Shape, En, passing, pass_on, starts, passes_on
 module _ {T : Types} {Hr Xr : Row} (p : Promise T Hr) (p' : Promise T Xr) (Needs : T.Dr.D → ℕ → Hr.D → Ask) (Decided : T.Dr.D → ℕ → Hr.D → Xr.D → Type 0) where
   -- ---- the code: the record is in _4, the act in _5, and the length in _6
   abbrev shape : Shape
-  shape = record { T = T; Xr = Hr; τ₄ = T.Dr.mir; τ₅ = Xr.mir; τ₆ = ty_int w64 }
+  shape = record { T = T; Xr = Hr; τ₄ = T.Dr.mir; τ₅ = Xr.mir; τ₆ = ty_int w64; row = [] }
 
-  abbrev body_of : Name → Name → Body
+  abbrev body_of : Callee → Callee → Body
   body_of decide perform = seq (assign (place 4 []) (rv_opd (copy (place 1 (deref T.Dr.mir ∷ [])))))
       (seq (assign (place 6 []) (rv_opd (copy (place 2 (field 1 ∷ [])))))
       (seq (call decide (copy (place 4 []) ∷ copy (place 6 []) ∷ copy (place 3 []) ∷ []) (place 5 []))
       (pass_on shape perform 5)))
 
-  abbrev pub function : Name → Name → Fn
+  abbrev pub function : Callee → Callee → Fn
   function decide perform = passing shape (body_of decide perform)
 
   -- ---- the contract of what decides
@@ -84,7 +84,7 @@ module _ {T : Types} {Hr Xr : Row} (p : Promise T Hr) (p' : Promise T Xr) (Needs
           qed 𝓛 [] ∵ answers (Needs (was e) (length (held e)) (third e)) (readies (was e) (held e) (third e) pre) $ nothing ! $ frame ! $ nothing ! $ owned ! (row_of Hr) (Is (row_of Hr)) of_happening.makes (third e) _ is-happening $ fjoin ! $
           owned ! usize (Is usize) (uint_Makes 𝓛 w64) (length (held e)) _ (refl, room.0) $ fjoin ! $ owned ! (RD T) (Is (RD T)) known.of_record.makes (was e) _ is $ fjoin ! $ done !
 
-      walk : (C : Calls 𝓤 H) (Λ : Loops 𝓤 H) → FmC 𝓤 H 𝓛.laws C → (decide perform : Name) → Triple 𝓤 (C decide) (Decides 𝓛) → Triple 𝓤 (C perform) (Lent p' 𝓛)
+      walk : (C : Calls 𝓤 H) (Λ : Loops 𝓤 H) → FmC 𝓤 H 𝓛.laws C → (decide perform : Callee) → Triple 𝓤 (C decide) (Decides 𝓛) → Triple 𝓤 (C perform) (Lent p' 𝓛)
           → ent 𝓤 (⋆ 𝓛 (Record e 𝓤 (was e) ∷ Journal e 𝓤 ∷ Tokens e 𝓤 ∷ [])) (WpFn 𝓤 H C Λ (function decide perform) (passed e) (Post p 𝓛 e))
       walk C Λ fm decide perform met met' =
           starts shape 𝓛 C Λ e room of_happening is-happening (body_of decide perform) (Post p 𝓛 e) (λ b. move ! (0 ∷ 2 ∷ []) $ opened known e tt (λ is.
@@ -105,7 +105,7 @@ module _ {T : Types} {Hr Xr : Row} (p : Promise T Hr) (p' : Promise T Xr) (Needs
       → ((d : T.Dr.D) (j : List ℕ) (h : Hr.D) → Asked (p.asks d j h) → Asked (Needs d (length j) h))
       → ((d : T.Dr.D) (j : List ℕ) (h : Hr.D) (x : Xr.D) → Asked (p.asks d j h) → Decided d (length j) h x → Asked (p'.asks d j x))
       → ((d : T.Dr.D) (j : List ℕ) (h : Hr.D) (x : Xr.D) → Asked (p.asks d j h) → Decided d (length j) h x → (p'.step d j x ≡ p.step d j h) × (p'.journal d j x ≡ p.journal d j h))
-      → (k decide perform : Name) → Closed 𝓤 𝓛.H (tables 𝓤 𝓛.H 𝓜 𝓡 env).C (tables 𝓤 𝓛.H 𝓜 𝓡 env).Λ k (function decide perform)
+      → (k decide perform : Callee) → Closed 𝓤 𝓛.H (tables 𝓤 𝓛.H 𝓜 𝓡 env).C (tables 𝓤 𝓛.H 𝓜 𝓡 env).Λ k (function decide perform)
       → {r : Routine} → env decide ≡ r → Triple 𝓤 (𝓡.run r) (Decides 𝓛) → {r' : Routine} → env perform ≡ r' → Triple 𝓤 (𝓡.run r') (Lent p' 𝓛) → Triple 𝓤 (𝓡.run (env k)) (Lent p 𝓛)
   meets {𝓤 = 𝓤} 𝓛 𝓜 𝓡 env known of_happening of_act readies allows agrees k decide perform closed at met at' met' = lent.meets p 𝓛 𝓜 𝓡 env of_happening k (function decide perform) closed
       (λ fm e room is pre. walk 𝓛 known of_happening of_act readies allows agrees e room is pre (tables 𝓤 𝓛.H 𝓜 𝓡 env).C (tables 𝓤 𝓛.H 𝓜 𝓡 env).Λ fm decide perform
