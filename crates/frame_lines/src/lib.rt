@@ -41,6 +41,7 @@ fn until_blank(s: &[u8]) -> usize
     i
 }
 
+#[tactic(auto, unfolding(crate::specs::Reading::identifier_in))]
 fn identifier(s: &[u8]) -> Number
     ensures { result ≡ identifier_in s.now }
 {
@@ -51,6 +52,7 @@ fn identifier(s: &[u8]) -> Number
 }
 
 // Pairs of digits, one to nine.
+#[tactic(auto, unfolding(crate::specs::Reading::joined))]
 fn joined(s: &[u8]) -> bool
     ensures { result ≡ Reading.joined s.now }
 {

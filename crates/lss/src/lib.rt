@@ -47,6 +47,7 @@ pub fn unselected(node: u8) -> Lss
     }
 }
 
+#[tactic(auto, unfolding(rules::specs::Lss::lss_command_of))]
 fn command(first: u8) -> LssCommand
     ensures { result ≡ lss_command_of first }
 {
@@ -116,6 +117,7 @@ fn silent(change: Change) -> Outcome
     }
 }
 
+#[tactic(auto, unfolding(rules::specs::Lss::on_switch))]
 fn switch(mode: u8, l: Lss) -> Outcome
     ensures { result ≡ on_switch mode l }
 {
@@ -130,6 +132,7 @@ fn switch(mode: u8, l: Lss) -> Outcome
 }
 
 // A match counts directly behind the one before it; the fourth brings configuration.
+#[tactic(auto, unfolding(rules::specs::Lss::on_select))]
 fn select(before: u8, same: bool, l: Lss) -> Outcome
     requires { before ≤ 3 }
     ensures { result ≡ on_select before same l }
@@ -146,6 +149,7 @@ fn select(before: u8, same: bool, l: Lss) -> Outcome
     silent(Change::Configure(next))
 }
 
+#[tactic(auto, unfolding(rules::specs::Lss::on_set_node))]
 fn set_node(node: u8, mut l: Lss) -> Outcome
     ensures { result ≡ on_set_node node l }
 {

@@ -19,6 +19,7 @@ pub enum Line {
 // How far a negative number of 32 bits goes; a positive one goes one less.
 const FARTHEST: u32 = 0x80000000;
 
+#[tactic(auto, unfolding(crate::specs::Reading::power_on_line))]
 fn power_on(field: &[u8]) -> Line
     ensures { result ≡ Reading.power_on_line field.now }
 {
@@ -64,6 +65,7 @@ fn negative(axis: Axis, number: Number) -> Line
     Line::Malformed
 }
 
+#[tactic(auto, unfolding(crate::specs::Reading::measured_line))]
 fn measured(axis: Axis, field: &[u8]) -> Line
     ensures { result ≡ Reading.measured_line axis field.now }
 {
@@ -73,6 +75,7 @@ fn measured(axis: Axis, field: &[u8]) -> Line
     positive(axis, numerals::decimal_in(field))
 }
 
+#[tactic(auto, unfolding(crate::specs::Reading::line_of))]
 pub fn line_of(letter: u8, field: &[u8]) -> Line
     ensures { result ≡ line_of letter field.now }
 {
