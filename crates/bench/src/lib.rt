@@ -3,9 +3,10 @@
 
 use answers::Answer;
 use device::Device;
-use libc::{STDIN_FILENO, STDOUT_FILENO};
 use plain_lines::Line;
 use rules::parts::Identity;
+use std::io;
+use std::io::{Input, Read};
 use texts::Text;
 
 const LINE_FEED: u8 = 10;
@@ -17,43 +18,46 @@ struct Bench {
     line: Text,
 }
 
-fn print(text: Text) {
+fn print(rt: &impl Print, text: Text) -> io::Result<()> {
     let bytes = text.bytes;
     let end = text.length as usize;
     if end <= 32 {
-        io::write_all(STDOUT_FILENO, &bytes[0..end]);
+        rt.write_all(&bytes[0..end])?;
     }
+    Ok(())
 }
 
 // Every refusal is a number of one digit.
-fn print_refusal(refusal: u16) {
+fn print_refusal(rt: &impl Print, refusal: u16) -> io::Result<()> {
     if refusal != 0 {
-        print(printing::refusal_text((refusal % 256) as u8));
+        print(rt, printing::refusal_text((refusal % 256) as u8))?;
     }
+    Ok(())
 }
 
-fn print_answer(answer: Answer) {
-    print_refusal(answer.refusal);
+fn print_answer(rt: &impl Print, answer: Answer) -> io::Result<()> {
+    print_refusal(rt, answer.refusal)?;
     let frames = answer.frames;
     let mut i = 0;
     while i < answers::MOST_FRAMES {
         if i < (answer.count as usize) {
-            print(printing::frame_text(frames[i]));
+            print(rt, printing::frame_text(frames[i]))?;
         }
         i += 1;
     }
+    Ok(())
 }
 
 // Two fresh blank blocks.
 fn make_blank(journal: &mut [u8]) {
     let image = image::blank();
     if 1024 <= journal.len() {
-        bytes::copy(&image, &mut journal[0..512]);
-        bytes::copy(&image, &mut journal[512..1024]);
+        journal[0..512].copy_from_slice(&image);
+        journal[512..1024].copy_from_slice(&image);
     }
 }
 
-fn power_on(node: u8, journal: &mut [u8]) -> Device {
+fn power_on(rt: &impl Print, node: u8, journal: &mut [u8]) -> io::Result<Device> {
     make_blank(journal);
     let identity = Identity {
         vendor: 0,
@@ -63,79 +67,78 @@ fn power_on(node: u8, journal: &mut [u8]) -> Device {
     };
     let stepped = power_on::power_on(node as u32, identity, journal);
     let answer = stepped.answer;
-    print_answer(answer);
-    stepped.device
+    print_answer(rt, answer)?;
+    Ok(stepped.device)
 }
 
 // One whole line.
-fn run(device: Device, journal: &mut [u8], text: Text) -> Device {
+fn run(rt: &impl Print, device: Device, journal: &mut [u8], text: Text) -> io::Result<Device> {
     let parsed = lines::read(text);
     let bytes = parsed.bytes;
     let line = parsed.line;
     match line {
-        Line::PowerOn(node) => power_on(node, journal),
+        Line::PowerOn(node) => power_on(rt, node, journal),
         Line::Happens(event) => {
             let stepped = device.event(journal, event, bytes, parsed.length);
             let answer = stepped.answer;
-            print_answer(answer);
-            stepped.device
+            print_answer(rt, answer)?;
+            Ok(stepped.device)
         }
         Line::Malformed => {
-            print(printing::refusal_text(lines::refusal(line)));
-            device
+            print(rt, printing::refusal_text(lines::refusal(line)))?;
+            Ok(device)
         }
     }
 }
 
-fn take(bench: Bench, journal: &mut [u8], b: u8) -> Bench {
+fn take(rt: &impl Print, bench: Bench, journal: &mut [u8], b: u8) -> io::Result<Bench> {
     let device = bench.device;
     let line = bench.line;
     if b == LINE_FEED {
-        return Bench {
-            device: run(device, journal, line),
+        let next = run(rt, device, journal, line)?;
+        return Ok(Bench {
+            device: next,
             line: Text::empty(),
-        };
+        });
     }
-    Bench {
+    Ok(Bench {
         device,
         line: line.with(b),
-    }
+    })
 }
 
-fn feed(start: Bench, journal: &mut [u8], chunk: &[u8]) -> Bench {
+fn feed(rt: &impl Print, start: Bench, journal: &mut [u8], chunk: &[u8]) -> io::Result<Bench> {
     let mut bench = start;
     let mut i = 0;
     while i < chunk.len() {
-        let next = take(bench, journal, chunk[i]);
+        let next = take(rt, bench, journal, chunk[i])?;
         bench = next;
         i += 1;
     }
-    bench
+    Ok(bench)
 }
 
 // Follows standard input to its end. A proved loop has to end, and nothing says that the input does: the turns are more
 // than any run uses up.
-pub fn follow() {
+pub fn follow(rt: &(impl Print + Input)) -> io::Result<()> {
     let mut space = [255u8; 1024];
     let journal: &mut [u8] = &mut space;
     let mut bench = Bench {
         device: power_on::zero_record(),
         line: Text::empty(),
     };
-    let mut turns = u64::MAX;
-    while 0 < turns {
-        let mut chunk = io::buffer();
-        let got = libc::read(STDIN_FILENO, &mut chunk);
-        let n = io::count(got, &chunk);
+    let mut input = rt.reader();
+    for _ in 0..u64::MAX {
+        let mut chunk = [0u8; 4096];
+        let n = input.read(&mut chunk)?;
         if n == 0 {
-            turns = 0;
-        } else {
-            let next = feed(bench, journal, &chunk[..n]);
-            bench = next;
-            turns -= 1;
+            break;
         }
+        let next = feed(rt, bench, journal, &chunk[..n])?;
+        bench = next;
     }
     if 0 < bench.line.length {
-        run(bench.device, journal, bench.line);
+        run(rt, bench.device, journal, bench.line)?;
     }
+    Ok(())
 }

@@ -1,32 +1,65 @@
 // Prints the check of each line of standard input in four hexadecimal digits.
 #![tactic(auto)]
 
-ghost use Rattle.std.specs.Prelude.{◌<◌, length};
+ghost use Rattle.std.specs.Prelude.{◌≡◌, ◌≢◌, ℕ, ◌<◌, ◌≤◌, length, slice_index, IfOk};
+ghost use Rattle.std.specs.Io.{ReadsAtMost};
 
-use libc::{STDIN_FILENO, STDOUT_FILENO};
+use std::io;
+use std::io::Read;
 
 const LINE_FEED: u8 = 10;
 
-// The line that starts at a place; it gives the place of the next.
-fn print_line(text: &[u8], from: usize) -> usize
-    requires { from < length text.now }
-    ensures { from < result }
+// The end of the line that starts at a place: its line feed, or the end of the text.
+fn line_end(text: &[u8], from: usize) -> usize
+    requires { from ≤ length text.now }
+    ensures low { from ≤ result }
+    ensures high { result ≤ length text.now }
+    ensures before { (k : ℕ) → from ≤ k → k < result → slice_index text.now k ≢ 10 }
+    ensures found { result < length text.now → slice_index text.now result ≡ 10 }
 {
-    let end = bytes::scan::find(text, from, text.len(), LINE_FEED);
-    io::print_hex(STDOUT_FILENO, crc::check(&text[from..end]) as u64, 4);
-    io::write_all(STDOUT_FILENO, b"\n");
-    end + 1
+    for i in from..text.len() {
+        if text[i] == LINE_FEED {
+            return i;
+        }
+    }
+    text.len()
 }
 
-fn print_lines(text: &[u8]) {
+// The line that starts at a place; it gives the place of the next.
+fn print_line(rt: &impl Print, text: &[u8], from: usize) -> io::Result<usize>
+    requires { from < length text.now }
+    ensures { IfOk result (λ next. from < next) }
+{
+    let end = line_end(text, from);
+    println!(rt; "{:04x}", crc::check(&text[from..end]))?;
+    Ok(end + 1)
+}
+
+fn print_lines(rt: &impl Print, text: &[u8]) -> io::Result<()> {
     let mut from = 0;
     while from < text.len() {
-        from = print_line(text, from);
+        from = print_line(rt, text, from)?;
     }
+    Ok(())
 }
 
-fn main() {
-    let mut space = io::large_buffer();
-    let n = io::read_full(STDIN_FILENO, &mut space);
-    print_lines(&space[..n]);
+// Reads until the space is full or the input ends.
+fn read_full(input: &mut impl Read, space: &mut [u8]) -> io::Result<usize>
+    ensures { ReadsAtMost result space.new }
+{
+    let mut done = 0;
+    while done < space.len() {
+        let n = input.read(&mut space[done..])?;
+        if n == 0 {
+            break;
+        }
+        done += n;
+    }
+    Ok(done)
+}
+
+fn main(rt: HostRuntime) -> io::Result<()> {
+    let mut space = [0u8; 65536];
+    let n = read_full(&mut rt.stdin(), &mut space)?;
+    print_lines(&rt, &space[..n])
 }

@@ -1,6 +1,8 @@
 // The trace program, run on a long input whose output the reference sensor gave.
 #![tactic(auto)]
 
-fn main() {
-    bench::follow();
+use std::io;
+
+fn main(rt: HostRuntime) -> io::Result<()> {
+    bench::follow(&rt)
 }

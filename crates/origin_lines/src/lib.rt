@@ -3,12 +3,12 @@
 
 ghost use Rattle.std.specs.Prelude.{◌≡◌, nat_abs};
 
-use libc::STDOUT_FILENO;
 use rules::journal;
 use rules::origins::{Bringer, Brought};
+use std::io;
 
-pub fn print(text: &[u8]) {
-    io::write_all(STDOUT_FILENO, text);
+pub fn print(rt: &impl Print, text: &[u8]) -> io::Result<()> {
+    rt.write_all(text)
 }
 
 // How far a number is from 0.
@@ -22,45 +22,39 @@ fn size(value: i32) -> u64
     }
 }
 
-pub fn print_number(value: i32) {
+pub fn print_number(rt: &impl Print, value: i32) -> io::Result<()> {
     if value < 0 {
-        print(b"-");
+        print(rt, b"-")?;
     }
-    io::print_decimal(STDOUT_FILENO, size(value));
+    print!(rt; "{}", size(value))
 }
 
-fn print_kind(kind: u8) {
+fn print_kind(rt: &impl Print, kind: u8) -> io::Result<()> {
     match kind {
-        journal::SAVE => print(b" save"),
-        journal::LOAD => print(b" load"),
-        _ => print(b" store"),
+        journal::SAVE => print(rt, b" save"),
+        journal::LOAD => print(rt, b" load"),
+        _ => print(rt, b" store"),
     }
 }
 
 // A good block has channel and kind 1 to 3.
-pub fn print_bringer(bringer: Bringer) {
-    print(b"block ");
-    io::print_decimal(STDOUT_FILENO, bringer.number as u64);
-    print(b" channel ");
-    io::print_decimal(STDOUT_FILENO, bringer.channel as u64);
-    print_kind(bringer.kind);
+pub fn print_bringer(rt: &impl Print, bringer: Bringer) -> io::Result<()> {
+    print!(rt; "block {} channel {}", bringer.number, bringer.channel)?;
+    print_kind(rt, bringer.kind)
 }
 
-pub fn print_brought(brought: Brought) {
+pub fn print_brought(rt: &impl Print, brought: Brought) -> io::Result<()> {
     match brought {
         Brought::ByBlock(value, bringer) => {
-            print_number(value);
-            print(b" ");
-            print_bringer(bringer);
+            print_number(rt, value)?;
+            print(rt, b" ")?;
+            print_bringer(rt, bringer)?;
         }
         Brought::ByFactory(value) => {
-            print_number(value);
-            print(b" factory");
+            print_number(rt, value)?;
+            print(rt, b" factory")?;
         }
-        Brought::Refused(number) => {
-            print(b"R ");
-            io::print_decimal(STDOUT_FILENO, number as u64);
-        }
+        Brought::Refused(number) => print!(rt; "R {number}")?,
     }
-    print(b"\n");
+    print(rt, b"\n")
 }

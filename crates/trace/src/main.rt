@@ -1,6 +1,8 @@
 // The trace program of document 01, run on the paper's input.
 #![tactic(auto)]
 
-fn main() {
-    bench::follow();
+use std::io;
+
+fn main(rt: HostRuntime) -> io::Result<()> {
+    bench::follow(&rt)
 }

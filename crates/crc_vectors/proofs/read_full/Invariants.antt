@@ -1,0 +1,9 @@
+-- `read_full` ends: each read moves the place on, up to the length.
+use Rattle.std.proofs.Common.{length, ◌-◌, ◌≤◌}
+use Rattle.crc_vectors.proofs.read_full.Given as goal
+
+abbrev pub invariant-loop-done : goal.invariant-loop-done
+invariant-loop-done g l = l.done ≤ length l.space
+
+abbrev pub decreases-loop-done : goal.decreases-loop-done
+decreases-loop-done g l = length l.initial.space - l.done
