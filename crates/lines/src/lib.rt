@@ -10,6 +10,7 @@ use frame_lines::Parsed;
 use plain_lines::Line;
 use texts::Text;
 
+#[tactic(auto, unfolding(crate::specs::Reading::form))]
 fn form(letter: u8, field: &[u8]) -> Parsed
     ensures { result ≡ Reading.form letter field.now }
 {
@@ -19,6 +20,7 @@ fn form(letter: u8, field: &[u8]) -> Parsed
     frame_lines::plain(plain_lines::line_of(letter, field))
 }
 
+#[tactic(auto, unfolding(crate::specs::Reading::parsed))]
 pub fn parse(line: &[u8]) -> Parsed
     ensures { result ≡ parsed line.now }
 {
@@ -29,6 +31,7 @@ pub fn parse(line: &[u8]) -> Parsed
 }
 
 // A line collected byte by byte; none of the forms is longer than what is held.
+#[tactic(auto, unfolding(crate::specs::Collecting::text_collected))]
 pub fn read(text: Text) -> Parsed
     ensures { result ≡ text_collected text }
 {
