@@ -13,11 +13,12 @@ shown_bits-second-requires c = (setting_in c.args.s c.requires.0 Resolution, c.r
 pub returns : goal.returns
 unfolding pdo_frame
 returns c =
-    simp
-    (c.pdo_at.ensures,
-    c.low-x_low.ensures,
-    c.high-x_high.ensures,
-    c.low-y_low.ensures,
-    c.high-y_high.ensures,
-    c.shown_bits-first.ensures,
-    c.shown_bits-second.ensures)
+    simp (
+      c.pdo_at.ensures,
+      c.low-x_low.ensures,
+      c.high-x_high.ensures,
+      c.low-y_low.ensures,
+      c.high-y_high.ensures,
+      c.shown_bits-first.ensures,
+      c.shown_bits-second.ensures,
+    )
