@@ -1,4 +1,4 @@
--- The way up to half a turn with 360,000 steps more: it is not below 0, how long it is, and that whole turns leave the same of it.
+-- The way up to half a turn with 360,000 steps more: whole turns leave the same of it.
 use mathlib.Core.Path.{◌≡◌, refl, ◌∙◌, ap}
 use mathlib.Core.Bool.{Bool, true, false}
 use Prim.Native.Nat.{ℕ, suc, ◌+◌, ◌-◌, ◌/◌, ◌%◌, ◌≤◌}
@@ -6,16 +6,11 @@ use native.Mathlib.Omega.{arith}
 use borrow.Author.Tests.{ltb-true, ltb-false}
 use lib.Dec.{ltb}
 use lib.IntN.{ℤ, pos, negsuc, neg_ℤ, nat_abs, ◌+ℤ◌, ◌-ℤ◌, +ℤ_assoc, pos-ne-negsuc}
-use lib.Signed.{mag}
 use Rattle.laws.proofs.Signed.{taken-within, taken-beyond}
 use Rattle.rules.proofs.Ranges.{each-resolution}
 use Rattle.rules.specs.declared.objects.Setting.TheVariants.{Resolution}
 use Rattle.rules.specs.Angle.{rest}
 use Rattle.rules.specs.Settings.{within}
-
-pub up : (a : ℕ) (z : ℤ) → mag z ≤ a → (n : ℕ) × (pos a -ℤ z ≡ pos n) × (n ≤ a + suc (mag z))
-up a (pos n) h = (a - n, taken-within a n h, omega arith)
-up a (negsuc n) h = (a + suc n, refl, omega arith)
 
 module _ (r : ℕ) (w : within Resolution r ≡ true) where
   more : (a : ℕ) → (360000 + a) % (360000 / r) ≡ a % (360000 / r)
