@@ -1,10 +1,5 @@
 -- `Device::measure` meets its contract: the parts of the answer, put together by the axis.
-use borrow.Author.Rules.{rules}
-use mir.Syntax.{w32}
-use mathlib.Core.Path.{◌≡◌}
-use mathlib.Core.Bool.{Bool}
-use Prim.Native.Nat.{ℕ}
-use lib.IntN.{ℤ}
+use Rattle.std.proofs.Common.{◌≡◌, Bool, ℕ, ℤ, w32, arith}
 use Rattle.laws.proofs.Signed.{ok}
 use Rattle.answers.specs.Answers.{answering}
 use Rattle.answers.specs.declared.Answer.{Answer}
@@ -21,8 +16,7 @@ use Rattle.device.specs.declared.Device.{Device}
 use Rattle.device.specs.declared.Stepped.{Stepped}
 use Rattle.device.specs.Answers.{stepped_of}
 use Rattle.device.specs.Seen.{alone}
-use Rattle.device.proofs.Device.measure.Statement.{statement}
-use Rattle.device.proofs.Device.measure.Tie as tie
+use Rattle.device.proofs.Device.measure.Goals as goal
 
 -- the record with a list and both readings another
 abbrev measured_as : Device → ErrorList → Reading → Reading → Device
@@ -57,25 +51,17 @@ unfolding on_reading
 together d X m old x y before after code fault list sent e₁ e₂ e₃ e₄ e₅ e₆ e₇ e₈ e₉ = rw (e₉, e₈, e₇, e₆, e₅, e₄, e₃, e₂, e₁)
 together d Y m old x y before after code fault list sent e₁ e₂ e₃ e₄ e₅ e₆ e₇ e₈ e₉ = rw (e₉, e₈, e₇, e₆, e₅, e₄, e₃, e₂, e₁)
 
-pub measure_spec : {M : Type 1} → statement M
-measure_spec =
-    tie.close
-    (tie.spec
-    (λ c κs. search rules)
-    (λ c κs. search rules)
-    (λ c κs. search rules)
-    (λ c κs. search rules)
-    (λ c κs. search rules)
-    (λ c κs. search rules)
-    (λ c κs. search rules)
-    (λ c κs. search rules)
-    (λ c κs. search rules)
-    (λ c.
-    let listed = c.before.before.before.before in
-    let fails = listed.before.before in
-    let told = fails.before.before.before in
-    let start = told.before in
-    let read = ok w32 start.args.act.m told.struct_told.given.1.1.1.1.0.1 in
-    rw start.requires.0 (together _ _ _ _ _ _ _ _ _ _ _ _ fails.before.of.ensures fails.before.before.register.ensures (simp read at fails.fails.ensures)
-    listed.before.fault-code.ensures listed.listed.ensures (simp read at c.before.before.before.x-after.ensures) (simp read at c.before.before.y-after.ensures)
-    c.before.register2.ensures c.alarm.ensures)))
+pub returns : goal.returns
+returns c =
+    let read = ok w32 c.args.act.m (omega arith) in
+    rw c.requires.0
+    (together _ _ _ _ _ _ _ _ _ _ _ _
+    c.of.ensures
+    c.register-before.ensures
+    (simp read at c.fails-fault.ensures)
+    c.fault_code-code.ensures
+    c.listed-self.ensures
+    (simp read at c.x_after-self.ensures)
+    (simp read at c.y_after-self.ensures)
+    c.register-after.ensures
+    c.alarm.ensures)
