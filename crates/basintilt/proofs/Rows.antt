@@ -3,15 +3,13 @@ use mathlib.Core.Path.{◌≡◌, ap}
 use Prim.Native.Nat.{ℕ}
 use mathlib.Core.List.{List}
 use seplogic.Ra.Ura.{Ura}
-use mir.Syntax.{Name}
+use mir.Syntax.{Callee}
 use prog.Model.{Model}
-use prog.Routine.{Routine, Env}
 use types.Logic.{Logic}
 use contract.Running.{Running, tables}
 use denote.Steps.{only}
 use denote.Struct.Laws as laws
 use denote.Triple.Statement.{Triple}
-use denote.Triple.Table.{cited}
 use Rattle.acts.specs.declared.Act.{Act}
 use Rattle.acts.specs.declared.asked.Asked.{Asked}
 use Rattle.acts.specs.Acts.{does}
@@ -57,13 +55,13 @@ abbrev pub asked_promise : (Device → List ℕ → Asked → Type 0) → Promis
 asked_promise P = record { asks = λ d j a. ask (P d j a); step = asked_step; journal = asked_journal }
 
 -- the arm of a number and its step
-abbrev pub act_arm : ℕ → Name → Arm parts act
+abbrev pub act_arm : ℕ → Callee → Arm parts act
 act_arm n f = record { key = n; callee = f; ready = λ d a. ask (Ready n d a); alone = λ d a. stepped_of (does a (alone d)) }
 
-abbrev pub asked_arm : ℕ → Name → Arm parts asked
+abbrev pub asked_arm : ℕ → Callee → Arm parts asked
 asked_arm n f = record { key = n; callee = f; ready = λ d a. ask (Serving n d a); alone = λ d a. stepped_of (answered a.caller a.outcome (alone d)) }
 
-module _ {M : Type 1} {𝓤 : Ura M} (𝓛 : Logic 𝓤) (𝓜 : Model 𝓤 𝓛.H) where
+module _ {M : Type 1} {𝓤 : Ura M} (𝓛 : Logic 𝓤) where
   open 𝓛 use {H}
 
   pub known : Known 𝓛 parts
@@ -86,15 +84,15 @@ module _ {M : Type 1} {𝓤 : Ura M} (𝓛 : Logic 𝓤) (𝓜 : Model 𝓤 𝓛
   of_asked = told 𝓛 Y.the_type Y'.the_laws Y'.the_plain
 
   -- an arm's step serves, where it meets its contract and does beside the journal what it does alone
-  module _ (𝓡 : Running 𝓤 H 𝓜) (env : Env) (n : ℕ) (f : Name) {r : Routine} (at : env f ≡ r) where
-    pub act_serves : (P : Device → List ℕ → Act → Type 0) → Triple 𝓤 (𝓡.run r) (Alone parts act (act_arm n f) 𝓛)
+  module _ (𝓜 : Model 𝓤 H) (𝓡 : Running 𝓤 H 𝓜) (n : ℕ) (f : Callee) where
+    pub act_serves : (P : Device → List ℕ → Act → Type 0) → Triple 𝓤 (𝓡.run (𝓡.env f)) (Alone parts act (act_arm n f) 𝓛)
         → ((d : Device) (j : List ℕ) (a : Act) → P d j a → a.step ≡ n → Ready n d a)
         → ((d : Device) (j : List ℕ) (a : Act) → P d j a → a.step ≡ n → (stepped_of (does a (alone d)) ≡ act_step d j a) × (j ≡ act_journal d j a))
-        → Serves parts act (act_promise P) 𝓛 (tables 𝓤 H 𝓜 𝓡 env).C (act_arm n f)
-    act_serves P met readies agrees = record { met = cited 𝓤 H (Alone parts act (act_arm n f) 𝓛) 𝓜 𝓡 env f _ at met; readies = readies; agrees = agrees }
+        → Serves parts act (act_promise P) 𝓛 (tables 𝓤 H 𝓜 𝓡 𝓡.env).C (act_arm n f)
+    act_serves P met readies agrees = record { met = met; readies = readies; agrees = agrees }
 
-    pub asked_serves : (P : Device → List ℕ → Asked → Type 0) → Triple 𝓤 (𝓡.run r) (Alone parts asked (asked_arm n f) 𝓛)
+    pub asked_serves : (P : Device → List ℕ → Asked → Type 0) → Triple 𝓤 (𝓡.run (𝓡.env f)) (Alone parts asked (asked_arm n f) 𝓛)
         → ((d : Device) (j : List ℕ) (a : Asked) → P d j a → a.step ≡ n → Serving n d a)
         → ((d : Device) (j : List ℕ) (a : Asked) → P d j a → a.step ≡ n → (stepped_of (answered a.caller a.outcome (alone d)) ≡ asked_step d j a) × (j ≡ asked_journal d j a))
-        → Serves parts asked (asked_promise P) 𝓛 (tables 𝓤 H 𝓜 𝓡 env).C (asked_arm n f)
-    asked_serves P met readies agrees = record { met = cited 𝓤 H (Alone parts asked (asked_arm n f) 𝓛) 𝓜 𝓡 env f _ at met; readies = readies; agrees = agrees }
+        → Serves parts asked (asked_promise P) 𝓛 (tables 𝓤 H 𝓜 𝓡 𝓡.env).C (asked_arm n f)
+    asked_serves P met readies agrees = record { met = met; readies = readies; agrees = agrees }

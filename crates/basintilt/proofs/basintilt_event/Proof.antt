@@ -29,8 +29,7 @@ unfolding act_step act_journal step_of journal_of
 agrees d j h a said = let e = sym (said j refl).0 in (ap stepped_of e, ap (λ (r : Result). r.state.journal) e)
 
 pub basintilt_event_spec : {M : Type 1} → stated.statement M
-unfolding code.routine
-basintilt_event_spec 𝓤 𝓛 𝓜 𝓡 =
-    looks.meets own (act_promise Performs) (λ d size h. no_ask) Decided 𝓛 𝓜 𝓡 code.env (known 𝓛 𝓜) (of_happening 𝓛 𝓜) (of_act 𝓛 𝓜)
+basintilt_event_spec 𝓤 𝓛 𝓜 𝓡 wired =
+    looks.meets own (act_promise Performs) (λ d size h. no_ask) Decided 𝓛 𝓜 𝓡 𝓡.env (known 𝓛) (of_happening 𝓛) (of_act 𝓛)
     (λ d j h pre. pre) (λ d j h a pre said. (said j refl).1) (λ d j h a pre said. agrees d j h a said)
-    key.name decided.name performed.name (code.unfolded 𝓤 𝓛.H 𝓜 𝓡) code.calls-basintilt::decided (decided-met.met 𝓤 𝓛 𝓜 𝓡) code.calls-basintilt::lent::performed (performed-met.met 𝓤 𝓛 𝓜 𝓡)
+    key.name decided.name performed.name (code.unfolded 𝓤 𝓛.H 𝓜 𝓡 wired) refl (decided-met.met 𝓤 𝓛 𝓜 𝓡 (code.calls-basintilt::decided 𝓡.env wired)) refl (performed-met.met 𝓤 𝓛 𝓜 𝓡 (code.calls-basintilt::lent::performed 𝓡.env wired))

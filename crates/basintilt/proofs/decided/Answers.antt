@@ -1,9 +1,5 @@
 -- `decided` meets its contract: refused by number, or what the event comes to.
-use mathlib.Core.Path.{◌≡◌, refl, ap, sym, ◌∙◌}
-use mathlib.Core.List.{List}
-use borrow.Author.Rules.{rules}
-use Prim.Native.Nat.{ℕ}
-use lib.ListN.{length as length_of}
+use Rattle.std.proofs.Common.{◌≡◌, ℕ, List, length as length_of, refl, ap, sym, ◌∙◌}
 use Rattle.acts.specs.declared.Act.{Act}
 use Rattle.acts.specs.Acts.{plain, act_of}
 use Rattle.device.proofs.Refused.{not-refused, refused_with, comes_to}
@@ -13,8 +9,7 @@ use Rattle.rules.specs.declared.events.Event.{Event}
 use Rattle.basintilt.specs.declared.Happening.{Happening}
 use Rattle.basintilt.specs.Acts.{Comes}
 use Rattle.basintilt.specs.Happenings.{event_of, length_in}
-use Rattle.basintilt.proofs.decided.Statement.{statement}
-use Rattle.basintilt.proofs.decided.Tie as tie
+use Rattle.basintilt.proofs.decided.Goals as goal
 
 -- at a journal of the length that was looked at
 module _ (d : Device) (j : List ℕ) (size : ℕ) (h : Happening) (n : ℕ) (p : n ≡ refusal_of size (alone d)) (fits : length_of j ≡ size) where
@@ -27,19 +22,10 @@ module _ (d : Device) (j : List ℕ) (size : ℕ) (h : Happening) (n : ℕ) (p :
   taken : (a : Act) (e : Event) (length : ℕ) → n ≡ 0 → e ≡ event_of h → length ≡ length_in h → a ≡ act_of e h.bytes length d.node → Comes d j h a
   taken a e length q s t k = (comes_to d j n number (event_of h) h.bytes (length_in h) a q (k ∙ rw (s, t)), λ _. not-refused d j n number q)
 
-pub decided_spec : {M : Type 1} → statement M
-decided_spec =
-    tie.close
-    (tie.spec
-    (λ c κs. search rules)
-    (λ c κs. search rules)
-    (λ c.
-    let start = c.before.before.before.before in
-    λ j fits. turned start.args.device j _ start.args.happening _ c.before.before.refusal.ensures fits _ c.before.if1.true c.stay.ensures)
-    (λ c κs. search rules)
-    (λ c κs. search rules)
-    (λ c κs. search rules)
-    (λ c.
-    let named = c.before.before in
-    let start = named.before.before.before.before in
-    λ j fits. taken start.args.device j _ start.args.happening _ named.before.before.refusal.ensures fits _ _ _ named.before.if1.false named.event-of.ensures c.before.bytes-in.ensures c.of.ensures))
+pub returns-then-refusal-ne0 : goal.returns-then-refusal-ne0
+returns-then-refusal-ne0 c =
+    λ j fits. turned c.args.device j _ c.args.happening _ c.refusal-refusal.ensures fits _ c.if-refusal-ne0.true c.stay.ensures
+
+pub returns : goal.returns
+returns c =
+    λ j fits. taken c.args.device j _ c.args.happening _ c.refusal-refusal.ensures fits _ _ _ c.if-refusal-ne0.false c.event_of-event.ensures c.bytes_in-length.ensures c.of.ensures
