@@ -56,7 +56,7 @@ call_step {d} {a} {j} {k} c holds =
     let x = as_act c in
     subst (λ (f : List Frame). Step (seen d j) f (seen a k)) x.sent (subst (Step (seen d j) _) x.state (by-act (seen d j) holds x.act))
 
-pub calls_step : {d a : Device} {j k : List ℕ} {frames : List Frame} → Calls d j frames a k → Holds (seen d j) → Step (seen d j) frames (seen a k)
+pub calls_step : {d : Device} {j : List ℕ} {a : Device} {k : List ℕ} {frames : List Frame} → Calls d j frames a k → Holds (seen d j) → Step (seen d j) frames (seen a k)
 unfolding after_acts sent_by
 calls_step {d} {j} none holds = along_acts [] (seen d j) holds
 calls_step (next before c) holds =
