@@ -38,12 +38,10 @@ fn print_refusal(rt: &impl Print, refusal: u16) -> io::Result<()> {
 fn print_answer(rt: &impl Print, answer: Answer) -> io::Result<()> {
     print_refusal(rt, answer.refusal)?;
     let frames = answer.frames;
-    let mut i = 0;
-    while i < answers::MOST_FRAMES {
+    for i in 0..answers::MOST_FRAMES {
         if i < (answer.count as usize) {
             print(rt, printing::frame_text(frames[i]))?;
         }
-        i += 1;
     }
     Ok(())
 }
@@ -109,11 +107,8 @@ fn take(rt: &impl Print, bench: Bench, journal: &mut [u8], b: u8) -> io::Result<
 
 fn feed(rt: &impl Print, start: Bench, journal: &mut [u8], chunk: &[u8]) -> io::Result<Bench> {
     let mut bench = start;
-    let mut i = 0;
-    while i < chunk.len() {
-        let next = take(rt, bench, journal, chunk[i])?;
-        bench = next;
-        i += 1;
+    for b in chunk {
+        bench = take(rt, bench, journal, *b)?;
     }
     Ok(bench)
 }
@@ -134,8 +129,7 @@ pub fn follow(rt: &(impl Print + Input)) -> io::Result<()> {
         if n == 0 {
             break;
         }
-        let next = feed(rt, bench, journal, &chunk[..n])?;
-        bench = next;
+        bench = feed(rt, bench, journal, &chunk[..n])?;
     }
     if 0 < bench.line.length {
         run(rt, bench.device, journal, bench.line)?;

@@ -6,6 +6,7 @@ ghost use Rattle.stack_probe.specs.Probed.{probed};
 
 const MOST_BLOCKS: usize = 4096;
 
+#[tactic(auto, unfolding(crate::specs::Probed::probed))]
 #[unsafe(no_mangle)]
 pub extern "C" fn stack_probe(journal: &[u8]) -> u32
     ensures { result ≡ probed journal.now }
