@@ -4,11 +4,11 @@
 -- for each case, a case of an enum beginning with a capital; `abbrev` and `unfoldable` only tell the prover when to look inside.
 --   ℕ, ℤ, Bool, List A     numbers from 0, whole numbers (`pos n`, `minus n`), true or false, lists
 --   [], x ∷ l, a ++ b      the empty list, one that begins with x, one list behind another
---   getD l i 0             the element at i, counted from 0; 0 past the end
+--   get_or l i 0           the element at i, counted from 0; 0 past the end
 --   take, drop, replicate  the first elements of a list, those behind them, one element many times
 --   cond t a b             a where the test t is true, else b
 --   eqb, ltb, leb          tests: equal, below, at most; `&&`, `||`, `not` join them
---   record { f = v }, u.f a record with its fields, and a field of a record
+--   record { f = v }, u.f  a record with its fields, and a field of a record
 --   let x = a in b, λ x. b b with x for a; what b is for any x
 --   a ≡ b, A × B, ¬ A      statements: both are the same; both hold; A does not
 -- What stands in a module named `declared` is a type of the code, in `src/`.
