@@ -1,6 +1,8 @@
 // The settings: what a block of the journal carries, with its factory values and the ends of its ranges.
 ghost use Rattle.std.specs.Prelude.{◌≡◌};
-ghost use Rattle.rules.specs.Settings.{factory, axis_factory, pdo_factory};
+ghost use Rattle.rules.specs.Settings.{factory, axis_factory, pdo_factory, axis_settings, pdo_settings, with_axis, with_pdo};
+
+use crate::objects::{Axis, PdoNumber};
 
 // 6011 to 6014, or 6021 to 6024.
 #[repr(C)]
@@ -84,5 +86,41 @@ impl Settings {
             x: AxisSettings::factory(),
             y: AxisSettings::factory(),
         }
+    }
+    // One axis's own, or one PDO's, and the settings with them changed.
+    pub fn axis(self, axis: Axis) -> AxisSettings
+        ensures { result ≡ axis_settings axis self }
+    {
+        match axis {
+            Axis::X => self.x,
+            Axis::Y => self.y,
+        }
+    }
+
+    pub fn with_axis(mut self, axis: Axis, changed: AxisSettings) -> Self
+        ensures { result ≡ with_axis axis changed self }
+    {
+        match axis {
+            Axis::X => self.x = changed,
+            Axis::Y => self.y = changed,
+        }
+        self
+    }
+
+    pub fn pdo(self, number: PdoNumber) -> PdoSettings
+        ensures { result ≡ pdo_settings number self }
+    {
+        match number {
+            PdoNumber::First => self.pdo,
+        }
+    }
+
+    pub fn with_pdo(mut self, number: PdoNumber, changed: PdoSettings) -> Self
+        ensures { result ≡ with_pdo number changed self }
+    {
+        match number {
+            PdoNumber::First => self.pdo = changed,
+        }
+        self
     }
 }
