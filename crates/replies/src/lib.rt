@@ -13,32 +13,17 @@ use rules::aborts;
 pub fn reply(first: u8, to: [u8; 8], n: u32) -> [u8; 8]
     ensures { result ≡ replyOf first to n }
 {
-    [
-        first,
-        to[1],
-        to[2],
-        to[3],
-        (n % 256) as u8,
-        (n / 256 % 256) as u8,
-        (n / 65536 % 256) as u8,
-        (n / 16777216 % 256) as u8,
-    ]
+    let [_, index_low, index_high, subindex, ..] = to;
+    let [low, second, third, high] = n.to_le_bytes();
+    [first, index_low, index_high, subindex, low, second, third, high]
 }
 
 // An LSS reply: the first byte, and a number behind it.
 pub fn lss(first: u8, n: u32) -> [u8; 8]
     ensures { result ≡ lss_reply first n }
 {
-    [
-        first,
-        (n % 256) as u8,
-        (n / 256 % 256) as u8,
-        (n / 65536 % 256) as u8,
-        (n / 16777216 % 256) as u8,
-        0,
-        0,
-        0,
-    ]
+    let [low, second, third, high] = n.to_le_bytes();
+    [first, low, second, third, high, 0, 0, 0]
 }
 
 // The first byte of a read's reply, by the length in bytes.

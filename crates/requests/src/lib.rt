@@ -38,18 +38,11 @@ pub fn command(first: u8) -> Command
     }
 }
 
-// The number in two bytes, the low one first.
-fn two(low: u8, high: u8) -> u16
-    ensures { result ≡ low + 256 * high }
-{
-    (low as u16) + 256 * (high as u16)
-}
-
 #[tactic(auto, unfolding(rules::specs::Numbers::two_at))]
 pub fn index(request: [u8; 8]) -> u16
     ensures { result ≡ index_of request }
 {
-    two(request[1], request[2])
+    u16::from_le_bytes([request[1], request[2]])
 }
 
 pub fn subindex(request: [u8; 8]) -> u8
@@ -58,29 +51,12 @@ pub fn subindex(request: [u8; 8]) -> u8
     request[3]
 }
 
-// The number in four bytes.
-fn four(first: u8, second: u8, third: u8, last: u8) -> u32
-    ensures { result ≡ first + 256 * second + 65536 * (third + 256 * last) }
-{
-    let low = two(first, second) as u32;
-    let high = two(third, last) as u32;
-    low + 65536 * high
-}
-
-// The last four bytes as a number.
-#[tactic(auto, unfolding(rules::specs::Numbers::two_at, rules::specs::Numbers::four_at))]
-fn whole(request: [u8; 8]) -> u32
-    ensures { result ≡ four_at request 4 }
-{
-    four(request[4], request[5], request[6], request[7])
-}
-
 // The number that an LSS request selects by.
 #[tactic(auto, unfolding(rules::specs::Numbers::two_at, rules::specs::Numbers::four_at))]
 pub fn selector(request: [u8; 8]) -> u32
     ensures { result ≡ four_at request 1 }
 {
-    four(request[1], request[2], request[3], request[4])
+    u32::from_le_bytes([request[1], request[2], request[3], request[4]])
 }
 
 // A number's lowest bytes, so many.
@@ -97,10 +73,12 @@ fn lowest(size: u8, n: u32) -> u32
 }
 
 // The value that is written, in a length of so many bytes.
+#[tactic(auto, unfolding(rules::specs::Numbers::two_at, rules::specs::Numbers::four_at))]
 pub fn value(size: u8, request: [u8; 8]) -> u32
     ensures { result ≡ four_at request 4 % 256 ^ size }
 {
-    lowest(size, whole(request))
+    let whole = u32::from_le_bytes([request[4], request[5], request[6], request[7]]);
+    lowest(size, whole)
 }
 
 // The rule that names a received frame; a wrong one is refused, and what no rule names does nothing.

@@ -87,6 +87,7 @@ impl Settings {
             y: AxisSettings::factory(),
         }
     }
+
     // One axis's own, or one PDO's, and the settings with them changed.
     pub fn axis(self, axis: Axis) -> AxisSettings
         ensures { result ≡ axis_settings axis self }
