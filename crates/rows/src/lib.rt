@@ -10,13 +10,13 @@ pub fn fixed_size(f: Fixed) -> u8
     ensures { result ≡ (fixed_row f).size }
 {
     match f {
-        Fixed::ErrorRegister => 1,
-        Fixed::SaveCount => 1,
-        Fixed::LoadCount => 1,
-        Fixed::IdentityCount => 1,
-        Fixed::ServerCount(_) => 1,
-        Fixed::PdoCount(_) => 1,
-        Fixed::MappingCount => 1,
+        Fixed::ErrorRegister
+        | Fixed::SaveCount
+        | Fixed::LoadCount
+        | Fixed::IdentityCount
+        | Fixed::ServerCount(_)
+        | Fixed::PdoCount(_)
+        | Fixed::MappingCount => 1,
         Fixed::Blocks => 2,
         _ => 4,
     }
@@ -48,22 +48,10 @@ pub fn size(o: Object) -> u8
     match o {
         Object::Const(f) => fixed_size(f),
         Object::ErrorCount => 1,
-        Object::ErrorEntry(_) => 4,
+        Object::Filled | Object::Angle(_) => 2,
+        Object::ErrorEntry(_) | Object::Save | Object::Load => 4,
         Object::Name => 10,
-        Object::Save => 4,
-        Object::Load => 4,
-        Object::Filled => 2,
-        Object::Angle(_) => 2,
         Object::Of(s) => setting_size(s),
-    }
-}
-
-fn is_setting_writable(s: Setting) -> bool
-    ensures { result ≡ (setting_row s).writable }
-{
-    match s {
-        Setting::Offset(_) => false,
-        _ => true,
     }
 }
 
@@ -71,10 +59,8 @@ pub fn is_writable(o: Object) -> bool
     ensures { result ≡ (row_of o).writable }
 {
     match o {
-        Object::ErrorCount => true,
-        Object::Save => true,
-        Object::Load => true,
-        Object::Of(s) => is_setting_writable(s),
+        Object::ErrorCount | Object::Save | Object::Load => true,
+        Object::Of(s) => !matches!(s, Setting::Offset(_)),
         _ => false,
     }
 }
