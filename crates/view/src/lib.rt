@@ -39,9 +39,6 @@ impl View {
     pub fn settings(self, axis: Axis) -> AxisSettings
         ensures { result ≡ axis_settings axis self.running }
     {
-        match axis {
-            Axis::X => self.running.x,
-            Axis::Y => self.running.y,
-        }
+        self.running.axis(axis)
     }
 }
