@@ -57,8 +57,7 @@ pub fn boot_up(node: u8) -> Frame
 pub fn emergency(node: u8, code: u16, register: u8) -> Frame
     ensures { result ≡ Frames.emergency_frame node code register }
 {
-    let low = numbers::low(code);
-    let high = numbers::high(code);
+    let [low, high] = code.to_le_bytes();
     let identifier = EMERGENCY_AT + (node as u16);
     Frame {
         identifier,
@@ -72,7 +71,7 @@ fn shown_bits(x: Reading, resolution: u16, s: AxisSettings) -> u16
     requires { (within Resolution resolution ≡ true) × (axis_ok x ≡ true) }
     ensures { result ≡ unsigned 16 (shown x resolution s) }
 {
-    numbers::bits(angle::shown(x, resolution, s))
+    angle::shown(x, resolution, s).cast_unsigned()
 }
 
 // Where a PDO goes; the node is added.
@@ -90,10 +89,8 @@ pub fn pdo(number: PdoNumber, node: u8, x: Reading, y: Reading, s: Settings) -> 
 {
     let first = shown_bits(x, s.resolution, s.x);
     let second = shown_bits(y, s.resolution, s.y);
-    let x_low = numbers::low(first);
-    let x_high = numbers::high(first);
-    let y_low = numbers::low(second);
-    let y_high = numbers::high(second);
+    let [x_low, x_high] = first.to_le_bytes();
+    let [y_low, y_high] = second.to_le_bytes();
     let identifier = pdo_at(number) + (node as u16);
     Frame {
         identifier,

@@ -123,7 +123,7 @@ fn switch(mode: u8, l: Lss) -> Outcome
 {
     if mode <= 1 {
         return silent(Change::Configure(Lss {
-            mode: mode as u16,
+            mode: u16::from(mode),
             matches: 0,
             node: l.node,
         }));
@@ -211,7 +211,7 @@ fn serve(command: LssCommand, request: [u8; 8], v: Sight) -> Outcome
         LssCommand::TellNode => in_mode(
             states::CONFIGURATION,
             v.lss,
-            said(0x5E, v.node as u32, Change::Keep),
+            said(0x5E, u32::from(v.node), Change::Keep),
         ),
         LssCommand::Unheard => silent(Change::Keep),
     }

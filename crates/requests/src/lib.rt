@@ -109,10 +109,10 @@ fn request_to(identifier: u32, length: u8, node: u8) -> Rule
     if length != WHOLE_REQUEST {
         return Rule::Nothing;
     }
-    if identifier == 0x600 + (node as u32) {
+    if identifier == 0x600 + u32::from(node) {
         return Rule::Request(Caller::Client(Channel::One));
     }
-    if identifier == 0x680 + (node as u32) {
+    if identifier == 0x680 + u32::from(node) {
         return Rule::Request(Caller::Client(Channel::Two));
     }
     if identifier == LSS_REQUEST_AT {

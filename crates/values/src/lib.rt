@@ -80,8 +80,8 @@ pub fn setting_value(s: Setting, v: View) -> u32
         Setting::Pdo(number, part) => pdo_value(number, part, v.running.pdo, v.node),
         Setting::Resolution => v.running.resolution as u32,
         Setting::Operating(axis) => v.settings(axis).operating as u32,
-        Setting::Preset(axis) => numbers::bits(v.settings(axis).preset) as u32,
-        Setting::Offset(axis) => numbers::bits(v.settings(axis).offset) as u32,
-        Setting::Differential(axis) => numbers::bits(v.settings(axis).differential) as u32,
+        Setting::Preset(axis) => v.settings(axis).preset.cast_unsigned() as u32,
+        Setting::Offset(axis) => v.settings(axis).offset.cast_unsigned() as u32,
+        Setting::Differential(axis) => v.settings(axis).differential.cast_unsigned() as u32,
     }
 }

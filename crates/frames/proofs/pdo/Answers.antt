@@ -15,10 +15,8 @@ unfolding pdo_frame
 returns c =
     simp (
       c.pdo_at.ensures,
-      c.low-x_low.ensures,
-      c.high-x_high.ensures,
-      c.low-y_low.ensures,
-      c.high-y_high.ensures,
+      c.to_le_bytes.ensures,
+      c.to_le_bytes-2.ensures,
       c.shown_bits-first.ensures,
       c.shown_bits-second.ensures,
     )
