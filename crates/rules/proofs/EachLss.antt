@@ -7,6 +7,7 @@ use native.Mathlib.Omega.{arith}
 use borrow.Author.Tests.{ne_eqb, le-leb}
 use lib.Dec.{eqb, leb}
 use lib.ListN.{get_or}
+use Rattle.std.specs.Prelude.{Ok, Err}
 use Rattle.laws.proofs.Bools.{cond_both, cond-each}
 use Rattle.rules.specs.declared.journal.Origin.TheVariants.{Stored}
 use Rattle.rules.specs.declared.parts.Lss.{Lss}
@@ -17,13 +18,11 @@ use Rattle.rules.specs.declared.requests.IdentityPart.TheVariants.{Vendor, Produ
 use Rattle.rules.specs.declared.requests.LssCommand.{LssCommand}
 use Rattle.rules.specs.declared.requests.LssCommand.TheVariants.{Switch, Select, SetNode, StoreNode, TellIdentity, TellNode, Unheard}
 use Rattle.rules.specs.declared.requests.Outcome.{Outcome}
-use Rattle.rules.specs.declared.requests.Verdict.{Verdict}
-use Rattle.rules.specs.declared.requests.Verdict.TheVariants.{Pass, Abort}
 use Rattle.rules.specs.Lss.{lss_command_of, lss_replied, lss_silent, on_switch, on_select, on_set_node, on_store, in_mode, on_lss_command, lss_outcome, identity_part, matches_before}
 use Rattle.rules.specs.Numbers.{four_at}
 use Rattle.rules.specs.Ranges.{node_ok, lss_ok}
 use Rattle.rules.specs.State.{State, stopped, waiting, configuration, last_set}
-use Rattle.rules.specs.Writes.{room_check}
+use Rattle.rules.specs.Writes.{Check, room_check}
 use Rattle.rules.proofs.Nodes.{node-small, lss_in, lss-node, lss_mode, lss-matches}
 use Rattle.rules.proofs.Selection.{each_select}
 
@@ -48,7 +47,7 @@ module _ (request : List ℕ) (u : State) (P : Outcome → Type 0) where
     pub changed : (l : Lss) → Ranged l → P (lss_silent (Configure l))
     pub configured : (first : ℕ) (l : Lss) → NoStore first 0 → Ranged l → P (lss_replied first 0 (Configure l))
     pub answered : (first n : ℕ) → NoStore first n → P (lss_replied first n Keep)
-    pub stored : room_check u.saves.spoiled u.saves.filled u.saves.blocks ≡ Pass → P (lss_replied 0x17 0 (Fill (Stored (last_set u))))
+    pub stored : room_check u.saves.spoiled u.saves.filled u.saves.blocks ≡ Ok tt → P (lss_replied 0x17 0 (Fill (Stored (last_set u))))
 
   module _ (each : Each) where
     switches : (mode : ℕ) → P (on_switch mode u.lss)
@@ -70,9 +69,9 @@ module _ (request : List ℕ) (u : State) (P : Outcome → Type 0) where
         (λ ok. each.configured 0x11 _ refl (λ h. lss_in u.lss.mode u.lss.matches n (lss_mode u.lss h) (lss-matches u.lss h) (node-small n ok)))
         (λ no. each.answered 0x11 1 refl)
 
-    stores : (v : Verdict) → room_check u.saves.spoiled u.saves.filled u.saves.blocks ≡ v → P (on_store v (last_set u))
-    stores Pass e = each.stored e
-    stores (Abort code) e = each.answered 0x17 2 refl
+    stores : (v : Check) → room_check u.saves.spoiled u.saves.filled u.saves.blocks ≡ v → P (on_store v (last_set u))
+    stores (Ok tt) e = each.stored e
+    stores (Err why) e = each.answered 0x17 2 refl
 
     tells_not : (p : IdentityPart) (n : ℕ) → NoStore (0x5A + matches_before p) n
     tells_not p n = rw (ne_eqb (0x5A + matches_before p) 0x17 (omega (arith, few p)))

@@ -2,11 +2,12 @@
 use mathlib.Core.Path.{◌≡◌, refl}
 use mathlib.Core.List.{List}
 use Prim.Native.Nat.{ℕ}
+use Rattle.std.specs.Prelude.{Result, Ok, Err}
 use lib.Dec.{eqb}
 use Rattle.laws.proofs.Bools.{cond_both}
+use Rattle.rules.specs.declared.aborts.Abort.{Abort}
+use Rattle.rules.specs.declared.aborts.Abort.TheVariants.{UnknownCommand}
 use Rattle.rules.specs.declared.objects.Channel.{Channel}
-use Rattle.rules.specs.declared.objects.Found.{Found}
-use Rattle.rules.specs.declared.objects.Found.TheVariants.{At, NoObject, NoSubindex}
 use Rattle.rules.specs.declared.objects.Object.{Object}
 use Rattle.rules.specs.declared.parts.Transfer.{Transfer}
 use Rattle.rules.specs.declared.requests.Change.{Change}
@@ -14,24 +15,22 @@ use Rattle.rules.specs.declared.requests.Change.TheVariants.{Keep}
 use Rattle.rules.specs.declared.requests.Command.{Command}
 use Rattle.rules.specs.declared.requests.Command.TheVariants.{Write, Read, Segment, End, Unknown}
 use Rattle.rules.specs.declared.requests.Got.{Got}
-use Rattle.rules.specs.declared.requests.Got.TheVariants.{Number, Text, Missing}
+use Rattle.rules.specs.declared.requests.Got.TheVariants.{Number, Text}
 use Rattle.rules.specs.declared.requests.Outcome.{Outcome}
-use Rattle.rules.specs.declared.requests.Verdict.{Verdict}
-use Rattle.rules.specs.declared.requests.Verdict.TheVariants.{Pass, Abort}
 use Rattle.rules.specs.Objects.{object_at}
 use Rattle.rules.specs.Reads.{read_of}
 use Rattle.rules.specs.Replies.{written, read_number, read_text, first_segment, last_segment, wrong_toggle, no_transfer}
 use Rattle.rules.specs.Requests.{command, index_of, subindex_of, value_for}
 use Rattle.rules.specs.Service.{replied, silent, refuse, on_write, on_read, on_segment, on_command, outcome, served}
 use Rattle.rules.specs.State.{State, absent, at_start, after_seven, transferring, transfer_of}
-use Rattle.rules.specs.Writes.{change, write_check}
+use Rattle.rules.specs.Writes.{Check, change, write_check}
 
 module _ (c : Channel) (request : List ℕ) (u : State) (P : Outcome → Type 0) where
   -- an abort, an accepted write, a read, the string's, a segment, and no reply
   pub record Each : Type 0 where
-    pub aborted : (code : ℕ) → P (refuse request code)
-    pub wrote : (given : ℕ) (o : Object) → command request ≡ Write given → object_at (index_of request) (subindex_of request) ≡ At o
-        → write_check given o (value_for o request) u ≡ Pass → P (replied (written request) absent (change c o (value_for o request) u))
+    pub aborted : (why : Abort) → P (refuse request why)
+    pub wrote : (given : ℕ) (o : Object) → command request ≡ Write given → object_at (index_of request) (subindex_of request) ≡ Ok o
+        → write_check given o (value_for o request) u ≡ Ok tt → P (replied (written request) absent (change c o (value_for o request) u))
     pub number : (size n : ℕ) → P (replied (read_number size request n) absent Keep)
     pub text : P (replied (read_text request) at_start Keep)
     pub first : P (replied first_segment after_seven Keep)
@@ -42,14 +41,14 @@ module _ (c : Channel) (request : List ℕ) (u : State) (P : Outcome → Type 0)
     pub unserved : P (silent (transfer_of c u))
 
   module _ (each : Each) where
-    writes : (v : Verdict) (e : Change) → (v ≡ Pass → P (replied (written request) absent e)) → P (on_write request v e)
-    writes Pass e h = h refl
-    writes (Abort code) e h = each.aborted code
+    writes : (v : Check) (e : Change) → (v ≡ Ok tt → P (replied (written request) absent e)) → P (on_write request v e)
+    writes (Ok tt) e h = h refl
+    writes (Err why) e h = each.aborted why
 
-    reads : (g : Got) → P (on_read request g)
-    reads (Number size n) = each.number size n
-    reads Text = each.text
-    reads (Missing code) = each.aborted code
+    reads : (g : Result Got Abort) → P (on_read request g)
+    reads (Ok (Number size n)) = each.number size n
+    reads (Ok Text) = each.text
+    reads (Err why) = each.aborted why
 
     segments : (toggle : ℕ) (t : Transfer) → P (on_segment toggle t)
     unfolding on_segment
@@ -57,16 +56,14 @@ module _ (c : Channel) (request : List ℕ) (u : State) (P : Outcome → Type 0)
         cond_both P (eqb t.stage absent) each.missing
         (cond_both P (eqb t.stage at_start) (cond_both P (eqb toggle 0) each.first each.toggle) (cond_both P (eqb toggle 1) each.last each.toggle))
 
-    commands : (k : Command) (f : Found) → command request ≡ k → object_at (index_of request) (subindex_of request) ≡ f → P (on_command c request k f u)
-    commands (Write given) (At o) p q = writes (write_check given o (value_for o request) u) (change c o (value_for o request) u) (each.wrote given o p q)
-    commands (Write given) NoObject p q = each.aborted 0x06020000
-    commands (Write given) NoSubindex p q = each.aborted 0x06090011
-    commands Read (At o) p q = reads (read_of o u)
-    commands Read NoObject p q = each.aborted 0x06020000
-    commands Read NoSubindex p q = each.aborted 0x06090011
+    commands : (k : Command) (f : Result Object Abort) → command request ≡ k → object_at (index_of request) (subindex_of request) ≡ f → P (on_command c request k f u)
+    commands (Write given) (Ok o) p q = writes (write_check given o (value_for o request) u) (change c o (value_for o request) u) (each.wrote given o p q)
+    commands (Write given) (Err why) p q = each.aborted why
+    commands Read (Ok o) p q = reads (read_of o u)
+    commands Read (Err why) p q = each.aborted why
     commands (Segment toggle) f p q = segments toggle (transfer_of c u)
     commands End f p q = each.ended
-    commands Unknown f p q = each.aborted 0x05040001
+    commands Unknown f p q = each.aborted UnknownCommand
 
     pub each_outcome : P (outcome c request u)
     each_outcome = cond_both P (served u.network) (commands (command request) (object_at (index_of request) (subindex_of request)) refl refl) each.unserved

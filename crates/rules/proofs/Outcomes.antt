@@ -7,6 +7,7 @@ use native.Mathlib.Nat.{mod-lt, one-le-pow}
 use native.Mathlib.Omega.{arith}
 use lib.Dec.{eqb, ltb, leb}
 use lib.IntN.{ℤ}
+use Rattle.std.specs.Prelude.{Result, Ok, Err}
 use borrow.Author.Tests.{eqb-true, ltb-true}
 use Rattle.laws.proofs.Bools.{cond_both, cond-each}
 use Rattle.rules.specs.declared.journal.Origin.{Origin}
@@ -24,10 +25,8 @@ use Rattle.rules.specs.declared.requests.Caller.TheVariants.{Client, Master}
 use Rattle.rules.specs.declared.requests.Change.{Change}
 use Rattle.rules.specs.declared.requests.Change.TheVariants.{Keep, Put, Zero, Empty, Configure, Fill}
 use Rattle.rules.specs.declared.requests.Outcome.{Outcome}
-use Rattle.rules.specs.declared.requests.Verdict.{Verdict}
-use Rattle.rules.specs.declared.requests.Verdict.TheVariants.{Pass, Abort}
-use Rattle.rules.specs.declared.requests.Zeroed.{Zeroed}
-use Rattle.rules.specs.declared.requests.Zeroed.TheVariants.{To, Refused}
+use Rattle.rules.specs.declared.aborts.Abort.{Abort}
+use Rattle.rules.specs.declared.aborts.Abort.TheVariants.{JournalFull, ReadOnly, JournalSpoiled, WrongValue}
 use Rattle.rules.specs.Angle.{offset, zeroed}
 use Rattle.rules.specs.Events.{outcome_for}
 use Rattle.rules.specs.Lss.{lss_outcome}
@@ -38,7 +37,7 @@ use Rattle.rules.specs.Requests.{value_for}
 use Rattle.rules.specs.Service.{outcome, carrying}
 use Rattle.rules.specs.Settings.{within, pdo_within, axis_settings}
 use Rattle.rules.specs.State.{State, good, reading, transfer_of, node_or_none, last_set}
-use Rattle.rules.specs.Writes.{◌then◌, unless, length_check, room_check, zeroed_by, zero_change, setting_write, write_of, write_check, change}
+use Rattle.rules.specs.Writes.{Check, ◌then◌, unless, length_check, room_check, zeroed_by, zero_change, setting_write, write_of, write_check, change}
 use Rattle.rules.proofs.BySetting.{valued}
 use Rattle.rules.proofs.EachLss.{each_lss}
 use Rattle.rules.proofs.EachOutcome.{each_outcome}
@@ -67,38 +66,38 @@ Allowed u (Configure l) = lss_ok l ≡ true
 Allowed u (Fill o) = (u.saves.filled < u.saves.blocks) × (u.saves.spoiled ≡ 0) × Numbered o
 
 -- the first and the last check pass where the whole chain does
-pub passes-first : (v w : Verdict) → v then w ≡ Pass → v ≡ Pass
-passes-first Pass w e = refl
-passes-first (Abort code) w e = let z : ◌≡◌ {A = ℕ} 0 1 = cc in absurd (omega arith)
+pub passes-first : (v w : Check) → v then w ≡ Ok tt → v ≡ Ok tt
+passes-first (Ok tt) w e = refl
+passes-first (Err why) w e = let z : ◌≡◌ {A = ℕ} 0 1 = cc in absurd (omega arith)
 
-pub passes-last : (v w : Verdict) → v then w ≡ Pass → w ≡ Pass
-passes-last Pass w e = e
-passes-last (Abort code) w e = let z : ◌≡◌ {A = ℕ} 0 1 = cc in absurd (omega arith)
+pub passes-last : (v w : Check) → v then w ≡ Ok tt → w ≡ Ok tt
+passes-last (Ok tt) w e = e
+passes-last (Err why) w e = let z : ◌≡◌ {A = ℕ} 0 1 = cc in absurd (omega arith)
 
-passes : (t : Bool) (code : ℕ) → unless t code ≡ Pass → t ≡ true
-passes true code e = refl
-passes false code e = let z : ◌≡◌ {A = ℕ} 0 1 = cc in absurd (omega arith)
+passes : (t : Bool) (why : Abort) → unless t why ≡ Ok tt → t ≡ true
+passes true why e = refl
+passes false why e = let z : ◌≡◌ {A = ℕ} 0 1 = cc in absurd (omega arith)
 
 -- a value that is written is in its object's length
 value-fits : (o : Object) (request : List ℕ) → value_for o request < 256 ^ (row_of o).size
 value-fits o request = mod-lt (four_at request 4) (one-le-pow (row_of o).size 256 (omega arith))
 
 -- an accepted value is in its setting's range
-accepted_in : (u : State) (s : Setting) (v : ℕ) → v < 256 ^ (setting_row s).size → (setting_write s v u).value ≡ Pass → within s (valued s v) ≡ true
-accepted_in u Heartbeat v h e = passes (within Heartbeat v) 0x06090030 e
+accepted_in : (u : State) (s : Setting) (v : ℕ) → v < 256 ^ (setting_row s).size → (setting_write s v u).value ≡ Ok tt → within s (valued s v) ≡ true
+accepted_in u Heartbeat v h e = passes (within Heartbeat v) WrongValue e
 accepted_in u (Pdo n On) v h e = cond_both (λ (n : ℕ). leb n 1 ≡ true) (ltb v 0x80000000) refl refl
-accepted_in u (Pdo n Transmission) v h e = passes (pdo_within Transmission v) 0x06090030 e
-accepted_in u (Pdo n Timer) v h e = passes (pdo_within Timer v) 0x06090030 e
-accepted_in u Resolution v h e = passes (within Resolution v) 0x06090030 e
-accepted_in u (Operating a) v h e = passes (within (Operating a) v) 0x06090030 e
+accepted_in u (Pdo n Transmission) v h e = passes (pdo_within Transmission v) WrongValue e
+accepted_in u (Pdo n Timer) v h e = passes (pdo_within Timer v) WrongValue e
+accepted_in u Resolution v h e = passes (within Resolution v) WrongValue e
+accepted_in u (Operating a) v h e = passes (within (Operating a) v) WrongValue e
 accepted_in u (Preset a) v h e = signed-fits v h
 accepted_in u (Offset a) v h e = signed-fits v h
 accepted_in u (Differential a) v h e = signed-fits v h
 
 -- an offset that is stored fits
-abbrev ZeroFits : Zeroed → Type 0
-ZeroFits (To offset) = fits 16 offset ≡ true
-ZeroFits (Refused code) = Unit {0}
+abbrev ZeroFits : Result ℤ Abort → Type 0
+ZeroFits (Ok offset) = fits 16 offset ≡ true
+ZeroFits (Err why) = Unit {0}
 
 zero-fits : (x : Reading) (r operating : ℕ) (differential preset : ℤ) → ZeroFits (zeroed x r operating differential preset)
 unfolding zeroed
@@ -108,23 +107,23 @@ zero-fits x r operating differential preset =
 
 module _ (u : State) where
   pub fill_allowed : (o : Origin) → Numbered o
-      → room_check u.saves.spoiled u.saves.filled u.saves.blocks ≡ Pass → Allowed u (Fill o)
+      → room_check u.saves.spoiled u.saves.filled u.saves.blocks ≡ Ok tt → Allowed u (Fill o)
   unfolding room_check
   fill_allowed o numbered e =
       let whole = eqb u.saves.spoiled 0 in
       let free = ltb u.saves.filled u.saves.blocks in
-      let first = unless whole 0x06060000 in
-      let last = unless free 0x05040005 in (
-        ltb-true u.saves.filled u.saves.blocks (passes free 0x05040005 (passes-last first last e)),
-        eqb-true u.saves.spoiled 0 (passes whole 0x06060000 (passes-first first last e)),
+      let first = unless whole JournalSpoiled in
+      let last = unless free JournalFull in (
+        ltb-true u.saves.filled u.saves.blocks (passes free JournalFull (passes-last first last e)),
+        eqb-true u.saves.spoiled 0 (passes whole JournalSpoiled (passes-first first last e)),
         numbered,
       )
 
-  zeroes : (a : Axis) (v : ℕ) (z : Zeroed) → v < 0x10000 → ZeroFits z → Allowed u (zero_change a v z)
-  zeroes a v (To offset) h e = (signed-fits v h, e)
-  zeroes a v (Refused code) h e = tt
+  zeroes : (a : Axis) (v : ℕ) (z : Result ℤ Abort) → v < 0x10000 → ZeroFits z → Allowed u (zero_change a v z)
+  zeroes a v (Ok offset) h e = (signed-fits v h, e)
+  zeroes a v (Err why) h e = tt
 
-  sets : (c : Channel) (s : Setting) (v : ℕ) → v < 256 ^ (setting_row s).size → (setting_write s v u).value ≡ Pass → Allowed u ((setting_write s v u).change c)
+  sets : (c : Channel) (s : Setting) (v : ℕ) → v < 256 ^ (setting_row s).size → (setting_write s v u).value ≡ Ok tt → Allowed u ((setting_write s v u).change c)
   sets c Heartbeat v h e = (h, accepted_in u Heartbeat v h e)
   sets c (Pdo n p) v h e = (h, accepted_in u (Pdo n p) v h e)
   sets c Resolution v h e = (h, accepted_in u Resolution v h e)
@@ -136,7 +135,7 @@ module _ (u : State) where
   sets c (Differential a) v h e = (h, accepted_in u (Differential a) v h e)
 
   -- an object's change, where the value's check and the device state's pass
-  changes : (c : Channel) (o : Object) (v : ℕ) → v < 256 ^ (row_of o).size → (write_of o v u).value ≡ Pass → (write_of o v u).state ≡ Pass → Allowed u (change c o v u)
+  changes : (c : Channel) (o : Object) (v : ℕ) → v < 256 ^ (row_of o).size → (write_of o v u).value ≡ Ok tt → (write_of o v u).state ≡ Ok tt → Allowed u (change c o v u)
   changes c (Const f) v h p e = tt
   changes c ErrorCount v h p e = tt
   changes c (ErrorEntry n) v h p e = tt
@@ -148,13 +147,13 @@ module _ (u : State) where
   changes c (Of s) v h p e = sets c s v h p
 
   -- an accepted write, whose checks all passed
-  wrote : (c : Channel) (request : List ℕ) (given : ℕ) (o : Object) → write_check given o (value_for o request) u ≡ Pass → Allowed u (change c o (value_for o request) u)
+  wrote : (c : Channel) (request : List ℕ) (given : ℕ) (o : Object) → write_check given o (value_for o request) u ≡ Ok tt → Allowed u (change c o (value_for o request) u)
   wrote c request given o e =
       let v = value_for o request in
       let state = (write_of o v u).state in
       let value = (write_of o v u).value in
       let long = length_check given (row_of o).size in
-      let checked = passes-last long (value then state) (passes-last (unless (row_of o).writable 0x06010002) (long then value then state) e) in
+      let checked = passes-last long (value then state) (passes-last (unless (row_of o).writable ReadOnly) (long then value then state) e) in
       changes c o v (value-fits o request) (passes-first value state checked) (passes-last value state checked)
 
   client_allowed : (c : Channel) (request : List ℕ) → Allowed u (outcome c request u).change

@@ -2,12 +2,12 @@
 use mathlib.Core.Path.{◌≡◌, refl}
 use mathlib.Core.Bool.{true}
 use lib.Dec.{eqb}
+use Rattle.std.specs.Prelude.{Ok}
 use borrow.Author.Tests.{eqb-true}
 use Rattle.laws.proofs.Bools.{left, right}
 use Rattle.rules.specs.declared.objects.Axis.TheVariants.{X, Y}
 use Rattle.rules.specs.declared.objects.Fixed.{Fixed}
 use Rattle.rules.specs.declared.objects.Fixed.TheVariants.{DeviceType, ErrorRegister, SyncIdentifier, SaveCount, LoadCount, EmergencyIdentifier, IdentityCount, Vendor, Product, Revision, Serial, ServerCount, RequestIdentifier, ReplyIdentifier, PdoCount, MappingCount, Mapped, Blocks}
-use Rattle.rules.specs.declared.objects.Found.TheVariants.{At}
 use Rattle.rules.specs.declared.objects.Object.TheVariants.{Of}
 use Rattle.rules.specs.declared.objects.PdoNumber.TheVariants.{First}
 use Rattle.rules.specs.declared.objects.PdoSetting.TheVariants.{On, Transmission, Timer}
@@ -37,7 +37,7 @@ fixed-read-only (Mapped a) = refl
 fixed-read-only Blocks = refl
 
 -- a setting stands at its numbers, so settings with the same numbers are one
-pub setting-at : (s : Setting) → object_at (setting_row s).index (setting_row s).subindex ≡ At (Of s)
+pub setting-at : (s : Setting) → object_at (setting_row s).index (setting_row s).subindex ≡ Ok (Of s)
 unfolding find
 setting-at Heartbeat = refl
 setting-at (Pdo First On) = refl

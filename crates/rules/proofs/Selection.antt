@@ -7,6 +7,8 @@ use Prim.Native.Nat.{ℕ, zero, suc, ◌+◌, ◌/◌, ◌%◌, ◌≤◌}
 use native.Mathlib.Omega.{arith}
 use borrow.Author.Tests.{eqb-true, eqb-false, eq-eqb}
 use lib.Dec.{eqb}
+use lib.IntN.{ℤ}
+use Rattle.std.specs.Prelude.{Result, Ok, Err}
 use lib.ListN.{length, get_or, replicate}
 use Rattle.laws.proofs.Bools.{no, left, right, either, cond-each}
 use Rattle.rules.specs.declared.objects.Axis.{Axis}
@@ -23,8 +25,7 @@ use Rattle.rules.specs.declared.requests.Caller.TheVariants.{Master}
 use Rattle.rules.specs.declared.requests.Change.{Change}
 use Rattle.rules.specs.declared.requests.Change.TheVariants.{Keep, Configure}
 use Rattle.rules.specs.declared.requests.Outcome.{Outcome}
-use Rattle.rules.specs.declared.requests.Zeroed.{Zeroed}
-use Rattle.rules.specs.declared.requests.Zeroed.TheVariants.{To, Refused}
+use Rattle.rules.specs.declared.aborts.Abort.{Abort}
 use Rattle.rules.specs.Lss.{lss_command_of, lss_replied, lss_silent, on_select, lss_outcome}
 use Rattle.rules.specs.Network.{started, communicating}
 use Rattle.rules.specs.Numbers.{four, four_at}
@@ -155,9 +156,9 @@ module _ (u : State) (request : List ℕ) where
 
 -- what is written on a channel is no part of LSS
 module _ (c : Channel) (u : State) (l : Lss) where
-  preset-apart : (a : Axis) (v : ℕ) (z : Zeroed) → on_lss (zero_change a v z) l ≡ l
-  preset-apart a v (To offset) = refl
-  preset-apart a v (Refused code) = refl
+  preset-apart : (a : Axis) (v : ℕ) (z : Result ℤ Abort) → on_lss (zero_change a v z) l ≡ l
+  preset-apart a v (Ok offset) = refl
+  preset-apart a v (Err why) = refl
 
   setting-apart : (s : Setting) (v : ℕ) → on_lss ((setting_write s v u).change c) l ≡ l
   setting-apart Heartbeat v = refl

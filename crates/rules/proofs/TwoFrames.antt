@@ -6,6 +6,7 @@ use native.Mathlib.Omega.{arith}
 use lib.Dec.{eqb}
 use lib.IntN.{ℤ}
 use lib.ListN.{length}
+use Rattle.std.specs.Prelude.{Option, Some, None}
 use Rattle.laws.proofs.Bools.{cond_both}
 use Rattle.rules.specs.declared.events.Event.{Event}
 use Rattle.rules.specs.declared.events.Frame.{Frame}
@@ -13,8 +14,9 @@ use Rattle.rules.specs.declared.objects.Axis.{Axis}
 use Rattle.rules.specs.declared.objects.PdoNumber.TheVariants.{First}
 use Rattle.rules.specs.declared.parts.Identity.{Identity}
 use Rattle.rules.specs.declared.parts.Saves.{Saves}
+use Rattle.rules.specs.declared.requests.Caller.{Caller}
 use Rattle.rules.specs.Events.{event, outcome_for}
-use Rattle.rules.specs.Frames.{boot_up_frame}
+use Rattle.rules.specs.Frames.{boot_up_frame, reply_frames}
 use Rattle.rules.specs.Network.{start}
 use Rattle.rules.specs.PowerOn.{saves_in, power_on}
 use Rattle.rules.specs.Readings.{fails, register_of, with_measured, on_reading}
@@ -31,6 +33,10 @@ none = omega arith
 
 one : (f : Frame) → Few (f ∷ [])
 one f = omega arith
+
+few-replies : (c : Caller) (node : ℕ) (r : Option (List ℕ)) → Few (reply_frames c node r)
+few-replies c node (Some bytes) = omega arith
+few-replies c node None = none
 
 -- a heartbeat and then a PDO, each where it is due
 two_due : (a b : Bool) (f g : Frame) → Few (when_due a f ++ when_due b g)
@@ -72,7 +78,7 @@ module _ (u : State) where
         synchronized = synchronized;
         ticked = ticked;
         measured = measured;
-        requested = λ c bytes. cond_both Few (outcome_for c bytes u).replies (omega arith) none;
+        requested = λ c bytes. few-replies c u.node (outcome_for c bytes u).reply;
       })
 
 pub power_on_sends : (node : ℕ) (identity : Identity) (j : List ℕ) → length (power_on node identity j).sent ≤ most_frames

@@ -1,9 +1,9 @@
 -- Angle and zero, with items 2 and 5 of 02.
-use Rattle.std.specs.Prelude.{Bool, cond, ℕ, suc, ◌+◌, ◌*◌, ◌-◌, ◌/◌, ◌%◌, eqb, ℤ, pos, neg_ℤ, nat_abs, ◌+ℤ◌, ◌-ℤ◌}
+use Rattle.std.specs.Prelude.{Bool, cond, ℕ, suc, ◌+◌, ◌*◌, ◌-◌, ◌/◌, ◌%◌, eqb, ℤ, pos, neg_ℤ, nat_abs, ◌+ℤ◌, ◌-ℤ◌, Result, Ok, Err}
 use Rattle.std.specs.Int.Signed.{lt_z}
+use Rattle.rules.specs.declared.aborts.Abort.{Abort}
+use Rattle.rules.specs.declared.aborts.Abort.TheVariants.{WrongValue, AxisNotGood}
 use Rattle.rules.specs.declared.parts.Reading.{Reading}
-use Rattle.rules.specs.declared.requests.Zeroed.{Zeroed}
-use Rattle.rules.specs.declared.requests.Zeroed.TheVariants.{To, Refused}
 use Rattle.rules.specs.declared.settings.AxisSettings.{AxisSettings}
 use Rattle.rules.specs.Numbers.{minus, fits}
 use Rattle.rules.specs.State.{good}
@@ -62,7 +62,7 @@ unfoldable pub offset : ℤ → ℕ → ℕ → ℤ → ℤ → ℤ
 offset m r operating differential preset = preset -ℤ q m r operating -ℤ differential
 
 -- "refused exactly if the axis is not good (08000022h), or else if the offset would not fit 16 signed bits (06090030h)"
-unfoldable pub zeroed : Reading → ℕ → ℕ → ℤ → ℤ → Zeroed
+unfoldable pub zeroed : Reading → ℕ → ℕ → ℤ → ℤ → Result ℤ Abort
 zeroed x r operating differential preset =
     let o = offset x.m r operating differential preset in
-    cond (eqb x.state good) (cond (fits 16 o) (To o) (Refused 0x06090030)) (Refused 0x08000022)
+    cond (eqb x.state good) (cond (fits 16 o) (Ok o) (Err WrongValue)) (Err AxisNotGood)

@@ -1,5 +1,5 @@
 -- The device and what moves it: an event, with refusals 3, 1 and 2 in this order.
-use Rattle.std.specs.Prelude.{◌≡◌, Bool, true, false, cond, ◌&&◌, List, [], ◌∷◌, ℕ, ◌+◌, ◌*◌, eqb, leb, length}
+use Rattle.std.specs.Prelude.{◌≡◌, Bool, true, false, cond, ◌&&◌, List, ℕ, ◌+◌, ◌*◌, eqb, leb, length}
 use Rattle.rules.specs.declared.events.Event.{Event}
 use Rattle.rules.specs.declared.events.Event.TheVariants.{Received, Tick, Measured}
 use Rattle.rules.specs.declared.events.FrameHead.{FrameHead}
@@ -8,7 +8,7 @@ use Rattle.rules.specs.declared.objects.Channel.TheVariants.{One, Two}
 use Rattle.rules.specs.declared.requests.Caller.{Caller}
 use Rattle.rules.specs.declared.requests.Caller.TheVariants.{Client, Master}
 use Rattle.rules.specs.declared.requests.Outcome.{Outcome}
-use Rattle.rules.specs.Frames.{requests_at, request_at, reply_frame}
+use Rattle.rules.specs.Frames.{requests_at, request_at, reply_frames}
 use Rattle.rules.specs.Lss.{lss_outcome}
 use Rattle.rules.specs.Network.{on_network}
 use Rattle.rules.specs.Ranges.{in_range}
@@ -24,7 +24,7 @@ outcome_for (Client c) request u = outcome c request u
 outcome_for Master request u = lss_outcome request u
 
 abbrev pub answered : Caller → Outcome → State → Result
-answered c o u = accepted (state_after c o u) (cond o.replies (reply_frame c u.node o.bytes ∷ []) [])
+answered c o u = accepted (state_after c o u) (reply_frames c u.node o.reply)
 
 unfoldable pub on_request : Caller → List ℕ → ℕ → State → Result
 on_request c bytes size u = cond (eqb size 8) (answered c (outcome_for c bytes u) u) (ignored u)

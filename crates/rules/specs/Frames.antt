@@ -1,5 +1,5 @@
 -- The frames that the device sends.
-use Rattle.std.specs.Prelude.{List, [], ◌∷◌, ◌++◌, ℕ, ◌+◌, length, take, replicate}
+use Rattle.std.specs.Prelude.{List, [], ◌∷◌, ◌++◌, ℕ, ◌+◌, length, take, replicate, Option, Some, None}
 use Rattle.rules.specs.declared.events.Frame.{Frame}
 use Rattle.rules.specs.declared.objects.Channel.{Channel}
 use Rattle.rules.specs.declared.objects.Channel.TheVariants.{One, Two}
@@ -61,3 +61,8 @@ reply_at Master node = 0x7E4
 
 abbrev pub reply_frame : Caller → ℕ → List ℕ → Frame
 reply_frame c node bytes = frame (reply_at c node) bytes
+
+-- what is sent of a reply, or of none
+abbrev pub reply_frames : Caller → ℕ → Option (List ℕ) → List Frame
+reply_frames c node (Some bytes) = reply_frame c node bytes ∷ []
+reply_frames c node None = []

@@ -10,6 +10,7 @@
 --   eqb, ltb, leb          tests: equal, below, at most; `&&`, `||`, `not` join them
 --   record { f = v }, u.f  a record with its fields, and a field of a record
 --   let x = a in b, λ x. b b with x for a; what b is for any x
+--   Ok x, Err e            what a `Result` holds: a value, or why there is none; `Some x`, `None`: a value or none
 --   a ≡ b, A × B, ¬ A      statements: both are the same; both hold; A does not
 -- What stands in a module named `declared` is a type of the code, in `src/`.
 -- "low byte first"
@@ -29,6 +30,7 @@ pub mod Rounding
 pub mod Turning
 -- Service channels
 pub mod Requests
+pub mod Aborts
 pub mod Writes
 pub mod Reads
 pub mod Replies

@@ -1,5 +1,5 @@
 -- Document 02, item 1: the node number by LSS, "the CiA 305 slave in Stopped only".
-use Rattle.std.specs.Prelude.{Bool, cond, ◌&&◌, ◌||◌, List, [], ◌∷◌, ◌++◌, ℕ, ◌+◌, eqb, leb, get_or}
+use Rattle.std.specs.Prelude.{Bool, cond, ◌&&◌, ◌||◌, List, [], ◌∷◌, ◌++◌, ℕ, ◌+◌, eqb, leb, get_or, Ok, Err}
 use Rattle.rules.specs.declared.journal.Origin.TheVariants.{Stored}
 use Rattle.rules.specs.declared.parts.Identity.{Identity}
 use Rattle.rules.specs.declared.parts.Lss.{Lss}
@@ -10,13 +10,11 @@ use Rattle.rules.specs.declared.requests.IdentityPart.TheVariants.{Vendor, Produ
 use Rattle.rules.specs.declared.requests.LssCommand.{LssCommand}
 use Rattle.rules.specs.declared.requests.LssCommand.TheVariants.{Switch, Select, SetNode, StoreNode, TellIdentity, TellNode, Unheard}
 use Rattle.rules.specs.declared.requests.Outcome.{Outcome}
-use Rattle.rules.specs.declared.requests.Verdict.{Verdict}
-use Rattle.rules.specs.declared.requests.Verdict.TheVariants.{Pass, Abort}
 use Rattle.rules.specs.Numbers.{four, four_at}
 use Rattle.rules.specs.Ranges.{node_ok}
 use Rattle.rules.specs.Service.{replied, unanswered}
 use Rattle.rules.specs.State.{State, stopped, waiting, configuration, absent, transferring, last_set}
-use Rattle.rules.specs.Writes.{room_check}
+use Rattle.rules.specs.Writes.{Check, room_check}
 
 -- "04h switch global (mode 0 or 1), 40h to 43h selective by vendor, product, revision, serial …, and in configuration: 11h node number, 17h store,
 -- 5Ah to 5Dh identity, 5Eh node number"
@@ -78,9 +76,9 @@ unfoldable pub on_set_node : ℕ → Lss → Outcome
 on_set_node n l = cond (node_ok n) (lss_replied 0x11 0 (Configure (record { mode = l.mode; matches = l.matches; node = n }))) (lss_replied 0x11 1 Keep)
 
 -- "Store appends a block … with … the number last set, else the running one"; "17h answers error 2 when the journal is spoiled or full"
-abbrev pub on_store : Verdict → ℕ → Outcome
-on_store Pass n = lss_replied 0x17 0 (Fill (Stored n))
-on_store (Abort code) n = lss_replied 0x17 2 Keep
+abbrev pub on_store : Check → ℕ → Outcome
+on_store (Ok passed) n = lss_replied 0x17 0 (Fill (Stored n))
+on_store (Err why) n = lss_replied 0x17 2 Keep
 
 -- what is not served in a mode is not answered
 abbrev pub in_mode : ℕ → Lss → Outcome → Outcome

@@ -1,13 +1,13 @@
 -- Objects: the table, by index and subindex.
-use Rattle.std.specs.Prelude.{Bool, true, false, cond, ◌&&◌, List, [], ◌∷◌, ◌++◌, map, ℕ, ◌+◌, eqb}
+use Rattle.std.specs.Prelude.{Bool, true, false, cond, ◌&&◌, List, [], ◌∷◌, ◌++◌, map, ℕ, ◌+◌, eqb, Result, Ok, Err}
+use Rattle.rules.specs.declared.aborts.Abort.{Abort}
+use Rattle.rules.specs.declared.aborts.Abort.TheVariants.{NoObject, NoSubindex}
 use Rattle.rules.specs.declared.objects.Axis.{Axis}
 use Rattle.rules.specs.declared.objects.Axis.TheVariants.{X, Y}
 use Rattle.rules.specs.declared.objects.Channel.{Channel}
 use Rattle.rules.specs.declared.objects.Channel.TheVariants.{One, Two}
 use Rattle.rules.specs.declared.objects.Fixed.{Fixed}
 use Rattle.rules.specs.declared.objects.Fixed.TheVariants.{DeviceType, ErrorRegister, SyncIdentifier, SaveCount, LoadCount, EmergencyIdentifier, IdentityCount, Vendor, Product, Revision, Serial, ServerCount, RequestIdentifier, ReplyIdentifier, PdoCount, MappingCount, Mapped, Blocks}
-use Rattle.rules.specs.declared.objects.Found.{Found}
-use Rattle.rules.specs.declared.objects.Found.TheVariants.{At, NoObject, NoSubindex}
 use Rattle.rules.specs.declared.objects.Object.{Object}
 use Rattle.rules.specs.declared.objects.Object.TheVariants.{Const, ErrorCount, ErrorEntry, Name, Save, Load, Filled, Angle, Of}
 use Rattle.rules.specs.declared.objects.PdoNumber.{PdoNumber}
@@ -138,11 +138,11 @@ objects =
     Name ∷ Save ∷ Load ∷ Filled ∷ Angle X ∷ Angle Y ∷ map Of settings ++ map Const fixed
 
 -- the object at an index and a subindex; where none is, whether one has the index
-unfoldable pub find : ℕ → ℕ → Found → List Object → Found
-find index subindex missing [] = missing
+unfoldable pub find : ℕ → ℕ → Abort → List Object → Result Object Abort
+find index subindex missing [] = Err missing
 find index subindex missing (o ∷ os) =
     let here = eqb index (row_of o).index in
-    cond (here && eqb subindex (row_of o).subindex) (At o) (find index subindex (cond here NoSubindex missing) os)
+    cond (here && eqb subindex (row_of o).subindex) (Ok o) (find index subindex (cond here NoSubindex missing) os)
 
-abbrev pub object_at : ℕ → ℕ → Found
+abbrev pub object_at : ℕ → ℕ → Result Object Abort
 object_at index subindex = find index subindex NoObject objects

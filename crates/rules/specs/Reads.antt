@@ -1,5 +1,7 @@
 -- Service channels, reads: what each object gives.
-use Rattle.std.specs.Prelude.{cond, ℕ, ◌+◌, ◌-◌, eqb, leb, ℤ, get_or}
+use Rattle.std.specs.Prelude.{cond, ℕ, ◌+◌, ◌-◌, eqb, leb, ℤ, get_or, Result, Ok, Err}
+use Rattle.rules.specs.declared.aborts.Abort.{Abort}
+use Rattle.rules.specs.declared.aborts.Abort.TheVariants.{AxisNotGood, NoEntry}
 use Rattle.rules.specs.declared.errors.ErrorList.{ErrorList}
 use Rattle.rules.specs.declared.objects.Axis.{Axis}
 use Rattle.rules.specs.declared.objects.Axis.TheVariants.{X, Y}
@@ -15,7 +17,7 @@ use Rattle.rules.specs.declared.objects.Setting.TheVariants.{Heartbeat, Pdo, Res
 use Rattle.rules.specs.declared.parts.Identity.{Identity}
 use Rattle.rules.specs.declared.parts.Reading.{Reading}
 use Rattle.rules.specs.declared.requests.Got.{Got}
-use Rattle.rules.specs.declared.requests.Got.TheVariants.{Number, Text, Missing}
+use Rattle.rules.specs.declared.requests.Got.TheVariants.{Number, Text}
 use Rattle.rules.specs.Angle.{angle}
 use Rattle.rules.specs.Frames.{requests_at, replies_at}
 use Rattle.rules.specs.Numbers.{unsigned}
@@ -67,23 +69,23 @@ setting_value (Offset a) node x = unsigned 16 x
 setting_value (Differential a) node x = unsigned 16 x
 
 -- "Reading 6010 or 6020 of an axis not good: 08000022h"
-unfoldable pub angle_read : Reading → ℕ → ℕ → ℤ → ℤ → Got
+unfoldable pub angle_read : Reading → ℕ → ℕ → ℤ → ℤ → Result Got Abort
 angle_read x r operating offset differential =
-    cond (eqb x.state good) (Number 2 (unsigned 16 (angle x.m r operating offset differential))) (Missing 0x08000022)
+    cond (eqb x.state good) (Ok (Number 2 (unsigned 16 (angle x.m r operating offset differential)))) (Err AxisNotGood)
 
 -- "1003:n above the length: 08000024h"; "newest first", "the upper half of an entry is 0"
-unfoldable pub entry_read : ℕ → ErrorList → Got
-entry_read n l = cond (leb n l.length) (Number 4 (get_or l.codes (n - 1) 0)) (Missing 0x08000024)
+unfoldable pub entry_read : ℕ → ErrorList → Result Got Abort
+entry_read n l = cond (leb n l.length) (Ok (Number 4 (get_or l.codes (n - 1) 0))) (Err NoEntry)
 
-abbrev pub read_of : Object → State → Got
-read_of (Const f) u = Number (fixed_row f).size (fixed_value f (register_of u) u.node u.identity u.saves.blocks)
-read_of ErrorCount u = Number 1 u.errors.length
+abbrev pub read_of : Object → State → Result Got Abort
+read_of (Const f) u = Ok (Number (fixed_row f).size (fixed_value f (register_of u) u.node u.identity u.saves.blocks))
+read_of ErrorCount u = Ok (Number 1 u.errors.length)
 read_of (ErrorEntry n) u = entry_read n u.errors
-read_of Name u = Text
-read_of Save u = Number 4 1
-read_of Load u = Number 4 1
-read_of Filled u = Number 2 u.saves.filled
+read_of Name u = Ok Text
+read_of Save u = Ok (Number 4 1)
+read_of Load u = Ok (Number 4 1)
+read_of Filled u = Ok (Number 2 u.saves.filled)
 read_of (Angle a) u =
     let s = axis_settings a u.running in
     angle_read (reading a u) u.running.resolution s.operating s.offset s.differential
-read_of (Of s) u = Number (setting_row s).size (setting_value s u.node (setting s u.running))
+read_of (Of s) u = Ok (Number (setting_row s).size (setting_value s u.node (setting s u.running)))

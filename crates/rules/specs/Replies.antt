@@ -1,5 +1,8 @@
 -- Service channels, replies: writes, reads, aborts and segments, eight bytes each.
 use Rattle.std.specs.Prelude.{cond, List, [], ◌∷◌, ◌++◌, ℕ, ◌+◌, ◌*◌, ◌-◌, eqb, length, take, drop, get_or, replicate}
+use Rattle.rules.specs.declared.aborts.Abort.{Abort}
+use Rattle.rules.specs.declared.aborts.Abort.TheVariants.{WrongToggle, UnknownCommand}
+use Rattle.rules.specs.Aborts.{abort_code}
 use Rattle.rules.specs.Numbers.{four}
 
 -- "Their bytes 1 to 3 repeat the request's; unused bytes are 0"
@@ -26,8 +29,8 @@ abbrev pub read_text : List ℕ → List ℕ
 read_text request = reply 0x41 request (length name)
 
 -- "An abort reply is 80h, the three bytes, the code"
-abbrev pub aborted : List ℕ → ℕ → List ℕ
-aborted request code = reply 0x80 request code
+abbrev pub aborted : List ℕ → Abort → List ℕ
+aborted request why = reply 0x80 request (abort_code why)
 
 -- "A segment has text from byte 1; its first byte is 16 × toggle + 2 × (7 − bytes) + 1 if last"
 abbrev pub segment : ℕ → ℕ → List ℕ → List ℕ
@@ -41,8 +44,8 @@ last_segment = segment 1 1 (drop 7 name)
 
 -- "Wrong toggle: 05030000h, naming the transfer's object": 1008:0
 abbrev pub wrong_toggle : List ℕ
-wrong_toggle = 0x80 ∷ 0x08 ∷ 0x10 ∷ 0 ∷ four 0x05030000
+wrong_toggle = 0x80 ∷ 0x08 ∷ 0x10 ∷ 0 ∷ four (abort_code WrongToggle)
 
 -- "No transfer: 05040001h with bytes 1 to 3 zero"
 abbrev pub no_transfer : List ℕ
-no_transfer = 0x80 ∷ 0 ∷ 0 ∷ 0 ∷ four 0x05040001
+no_transfer = 0x80 ∷ 0 ∷ 0 ∷ 0 ∷ four (abort_code UnknownCommand)

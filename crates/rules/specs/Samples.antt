@@ -1,10 +1,10 @@
 -- Sample values (a) to (l), with item 2 of 02, and turned angles of item 5, one table.
-use Rattle.std.specs.Prelude.{◌≡◌, Bool, true, false, List, [], ◌∷◌, ℕ, ℤ, pos, get_or}
+use Rattle.std.specs.Prelude.{◌≡◌, Bool, true, false, List, [], ◌∷◌, ℕ, ℤ, pos, get_or, Result, Ok, Err}
+use Rattle.rules.specs.declared.aborts.Abort.{Abort}
+use Rattle.rules.specs.declared.aborts.Abort.TheVariants.{WrongValue}
 use Rattle.rules.specs.declared.objects.PdoNumber.TheVariants.{First}
 use Rattle.rules.specs.declared.objects.PdoSetting.TheVariants.{Transmission}
 use Rattle.rules.specs.declared.objects.Setting.TheVariants.{Heartbeat, Pdo}
-use Rattle.rules.specs.declared.requests.Zeroed.{Zeroed}
-use Rattle.rules.specs.declared.requests.Zeroed.TheVariants.{To, Refused}
 use Rattle.rules.specs.Angle.{angle, zeroed}
 use Rattle.rules.specs.Numbers.{minus}
 use Rattle.rules.specs.Replies.{first_segment, last_segment}
@@ -13,7 +13,7 @@ use Rattle.rules.specs.State.{good}
 
 pub data Sample : Type 0 where
   shows : ℤ → Sample
-  zeroes : Zeroed → Sample
+  zeroes : Result ℤ Abort → Sample
   passes : Bool → Sample
   begins : ℕ → Sample
 
@@ -44,8 +44,8 @@ abbrev pub told : List Sample
 told =
     shows (pos 1235) ∷ shows (minus 1235) ∷ shows (minus 2) ∷
     shows (pos 32767) ∷ shows (minus 32767) ∷
-    zeroes (To (minus 1235)) ∷ shows (pos 0) ∷
-    zeroes (To (minus 32768)) ∷ zeroes (Refused 0x06090030) ∷
+    zeroes (Ok (minus 1235)) ∷ shows (pos 0) ∷
+    zeroes (Ok (minus 32768)) ∷ zeroes (Err WrongValue) ∷
     passes true ∷ passes true ∷ passes false ∷
     passes true ∷ passes true ∷ passes false ∷
     passes false ∷ passes false ∷

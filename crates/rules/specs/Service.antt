@@ -1,13 +1,13 @@
 -- Service channels: the outcome of a request, and the state after it.
-use Rattle.std.specs.Prelude.{Bool, true, false, cond, ◌||◌, List, [], ◌∷◌, ℕ, ◌+◌, eqb, ltb, ℤ}
+use Rattle.std.specs.Prelude.{Bool, cond, ◌||◌, List, [], ◌∷◌, ℕ, ◌+◌, eqb, ltb, ℤ, Some, None, Result, Ok, Err}
+use Rattle.rules.specs.declared.aborts.Abort.{Abort}
+use Rattle.rules.specs.declared.aborts.Abort.TheVariants.{UnknownCommand}
 use Rattle.rules.specs.declared.errors.ErrorList.{ErrorList}
 use Rattle.rules.specs.declared.journal.Origin.{Origin}
 use Rattle.rules.specs.declared.journal.Origin.TheVariants.{Saved, Loaded, Stored}
 use Rattle.rules.specs.declared.objects.Axis.{Axis}
 use Rattle.rules.specs.declared.objects.Channel.{Channel}
 use Rattle.rules.specs.declared.objects.Channel.TheVariants.{One, Two}
-use Rattle.rules.specs.declared.objects.Found.{Found}
-use Rattle.rules.specs.declared.objects.Found.TheVariants.{At, NoObject, NoSubindex}
 use Rattle.rules.specs.declared.objects.Object.{Object}
 use Rattle.rules.specs.declared.objects.PdoNumber.{PdoNumber}
 use Rattle.rules.specs.declared.objects.PdoNumber.TheVariants.{First}
@@ -25,10 +25,8 @@ use Rattle.rules.specs.declared.requests.Change.TheVariants.{Keep, Put, Zero, Em
 use Rattle.rules.specs.declared.requests.Command.{Command}
 use Rattle.rules.specs.declared.requests.Command.TheVariants.{Write, Read, Segment, End, Unknown}
 use Rattle.rules.specs.declared.requests.Got.{Got}
-use Rattle.rules.specs.declared.requests.Got.TheVariants.{Number, Text, Missing}
+use Rattle.rules.specs.declared.requests.Got.TheVariants.{Number, Text}
 use Rattle.rules.specs.declared.requests.Outcome.{Outcome}
-use Rattle.rules.specs.declared.requests.Verdict.{Verdict}
-use Rattle.rules.specs.declared.requests.Verdict.TheVariants.{Pass, Abort}
 use Rattle.rules.specs.declared.settings.PdoSettings.{PdoSettings}
 use Rattle.rules.specs.declared.settings.Settings.{Settings}
 use Rattle.rules.specs.Block.{block_from}
@@ -41,31 +39,31 @@ use Rattle.rules.specs.Replies.{written, read_number, read_text, aborted, first_
 use Rattle.rules.specs.Requests.{command, index_of, subindex_of, value_for}
 use Rattle.rules.specs.Settings.{factory, axis_settings, pdo_settings, with_axis, with_pdo}
 use Rattle.rules.specs.State.{State, operational, pre_operational, absent, at_start, after_seven, transferring, no_counts, transfer_of}
-use Rattle.rules.specs.Writes.{change, write_check}
+use Rattle.rules.specs.Writes.{Check, change, write_check}
 
 -- a reply, with the transfer after it and the change; and no reply
 abbrev pub replied : List ℕ → ℕ → Change → Outcome
-replied bytes stage e = record { replies = true; bytes = bytes; transfer = transferring stage; change = e }
+replied bytes stage e = record { reply = Some bytes; transfer = transferring stage; change = e }
 
 abbrev pub unanswered : Transfer → Change → Outcome
-unanswered t e = record { replies = false; bytes = 0 ∷ 0 ∷ 0 ∷ 0 ∷ 0 ∷ 0 ∷ 0 ∷ 0 ∷ []; transfer = t; change = e }
+unanswered t e = record { reply = None; transfer = t; change = e }
 
 abbrev pub silent : Transfer → Outcome
 silent t = unanswered t Keep
 
 -- "An abort, sent or received, the last segment or any new initiate ends that channel's transfer"
-abbrev pub refuse : List ℕ → ℕ → Outcome
-refuse request code = replied (aborted request code) absent Keep
+abbrev pub refuse : List ℕ → Abort → Outcome
+refuse request why = replied (aborted request why) absent Keep
 
-abbrev pub on_write : List ℕ → Verdict → Change → Outcome
-on_write request Pass e = replied (written request) absent e
-on_write request (Abort code) e = refuse request code
+abbrev pub on_write : List ℕ → Check → Change → Outcome
+on_write request (Ok passed) e = replied (written request) absent e
+on_write request (Err why) e = refuse request why
 
 -- "an initiate read of the string begins one"
-abbrev pub on_read : List ℕ → Got → Outcome
-on_read request (Number size n) = replied (read_number size request n) absent Keep
-on_read request Text = replied (read_text request) at_start Keep
-on_read request (Missing code) = refuse request code
+abbrev pub on_read : List ℕ → Result Got Abort → Outcome
+on_read request (Ok (Number size n)) = replied (read_number size request n) absent Keep
+on_read request (Ok Text) = replied (read_text request) at_start Keep
+on_read request (Err why) = refuse request why
 
 -- "toggle starts at 0"; "No transfer" is looked at first
 unfoldable pub on_segment : ℕ → Transfer → Outcome
@@ -74,24 +72,18 @@ on_segment toggle t =
     (cond (eqb t.stage at_start) (cond (eqb toggle 0) (replied first_segment after_seven Keep) (replied wrong_toggle absent Keep))
     (cond (eqb toggle 1) (replied last_segment absent Keep) (replied wrong_toggle absent Keep)))
 
--- "object (06020000h); subindex (06090011h)"; 0 where one is found
-abbrev pub missing_code : Found → ℕ
-missing_code (At o) = 0
-missing_code NoObject = 0x06020000
-missing_code NoSubindex = 0x06090011
-
-abbrev pub on_found : List ℕ → Found → (Object → Outcome) → Outcome
-on_found request (At o) on = on o
-on_found request NoObject on = refuse request (missing_code NoObject)
-on_found request NoSubindex on = refuse request (missing_code NoSubindex)
+-- "object …; subindex …": what is not found is refused
+abbrev pub on_found : List ℕ → Result Object Abort → (Object → Outcome) → Outcome
+on_found request (Ok o) on = on o
+on_found request (Err why) on = refuse request why
 
 -- "Checks in order: first byte; object …; subindex …"; "All others get 05040001h"; "80h ends the transfer, no reply"
-abbrev pub on_command : Channel → List ℕ → Command → Found → State → Outcome
+abbrev pub on_command : Channel → List ℕ → Command → Result Object Abort → State → Outcome
 on_command c request (Write given) f u = on_found request f (λ o. let v = value_for o request in on_write request (write_check given o v u) (change c o v u))
 on_command c request Read f u = on_found request f (λ o. on_read request (read_of o u))
 on_command c request (Segment toggle) f u = on_segment toggle (transfer_of c u)
 on_command c request End f u = silent (transferring absent)
-on_command c request Unknown f u = refuse request 0x05040001
+on_command c request Unknown f u = refuse request UnknownCommand
 
 -- "Served in Pre-Operational and Operational"
 abbrev pub served : ℕ → Bool

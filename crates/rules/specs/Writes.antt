@@ -1,5 +1,7 @@
 -- Service channels, writes: the checks in their order, and what an accepted write changes.
-use Rattle.std.specs.Prelude.{Bool, true, false, cond, not, ◌||◌, ℕ, ◌+◌, eqb, ltb}
+use Rattle.std.specs.Prelude.{Bool, true, false, cond, not, ◌||◌, ℕ, ◌+◌, eqb, ltb, ℤ, Result, Ok, Err, ⊤}
+use Rattle.rules.specs.declared.aborts.Abort.{Abort}
+use Rattle.rules.specs.declared.aborts.Abort.TheVariants.{JournalFull, ReadOnly, JournalSpoiled, TooLong, TooShort, WrongValue, WrongSignature}
 use Rattle.rules.specs.declared.journal.Origin.{Origin}
 use Rattle.rules.specs.declared.journal.Origin.TheVariants.{Saved, Loaded}
 use Rattle.rules.specs.declared.objects.Axis.{Axis}
@@ -13,10 +15,6 @@ use Rattle.rules.specs.declared.objects.Setting.{Setting}
 use Rattle.rules.specs.declared.objects.Setting.TheVariants.{Heartbeat, Pdo, Resolution, Operating, Preset, Offset, Differential}
 use Rattle.rules.specs.declared.requests.Change.{Change}
 use Rattle.rules.specs.declared.requests.Change.TheVariants.{Keep, Put, Zero, Empty, Fill}
-use Rattle.rules.specs.declared.requests.Verdict.{Verdict}
-use Rattle.rules.specs.declared.requests.Verdict.TheVariants.{Pass, Abort}
-use Rattle.rules.specs.declared.requests.Zeroed.{Zeroed}
-use Rattle.rules.specs.declared.requests.Zeroed.TheVariants.{To, Refused}
 use Rattle.rules.specs.Angle.{zeroed}
 use Rattle.rules.specs.Frames.{pdo_at}
 use Rattle.rules.specs.Numbers.{signed}
@@ -24,20 +22,24 @@ use Rattle.rules.specs.Objects.{row_of}
 use Rattle.rules.specs.Settings.{within, pdo_within, axis_settings}
 use Rattle.rules.specs.State.{State, reading}
 
--- one check after the other: the first that refuses gives its code
-abbrev pub ◌then◌ : Verdict → Verdict → Verdict
-Pass then v = v
-(Abort code) then v = Abort code
+-- a check: passed, or why it refuses
+abbrev pub Check : Type 0
+Check = Result ⊤ Abort
+
+-- one check after the other: the first that refuses gives its abort
+abbrev pub ◌then◌ : Check → Check → Check
+(Ok passed) then v = v
+(Err why) then v = Err why
 
 infixr 20 ◌then◌
-abbrev pub unless : Bool → ℕ → Verdict
-unless true code = Pass
-unless false code = Abort code
+abbrev pub unless : Bool → Abort → Check
+unless true why = Ok tt
+unless false why = Err why
 
 -- "length, too long 06070012h, too short 06070013h"; 0 is the object's own
-unfoldable pub length_check : ℕ → ℕ → Verdict
+unfoldable pub length_check : ℕ → ℕ → Check
 length_check given own =
-    cond (eqb given 0) Pass (unless (not (ltb own given)) 0x06070012 then unless (not (ltb given own)) 0x06070013)
+    cond (eqb given 0) (Ok tt) (unless (not (ltb own given)) TooLong then unless (not (ltb given own)) TooShort)
 
 -- "40000180h+node, or C0000180h+node (off)"
 abbrev pub on_value : PdoNumber → ℕ → ℕ
@@ -53,47 +55,47 @@ pdo_accepts node n Timer v = pdo_within Timer v
 
 -- what a write comes to: the check of its value, the check of the device state, and what it changes, by its channel, where both pass
 pub record WriteRow : Type 0 where
-  pub value : Verdict
-  pub state : Verdict
+  pub value : Check
+  pub state : Check
   pub change : Channel → Change
 
 -- what is read-only is refused before
 abbrev pub read_only_write : WriteRow
-read_only_write = record { value = Pass; state = Pass; change = λ c. Keep }
+read_only_write = record { value = Ok tt; state = Ok tt; change = λ c. Keep }
 
 -- "value 06090030h"
 abbrev pub value_write : Bool → Change → WriteRow
-value_write accepted e = record { value = unless accepted 0x06090030; state = Pass; change = λ c. e }
+value_write accepted e = record { value = unless accepted WrongValue; state = Ok tt; change = λ c. e }
 
 -- "Spoiled: 06060000h; else full: 05040005h"
-unfoldable pub room_check : ℕ → ℕ → ℕ → Verdict
-room_check spoiled filled blocks = unless (eqb spoiled 0) 0x06060000 then unless (ltb filled blocks) 0x05040005
+unfoldable pub room_check : ℕ → ℕ → ℕ → Check
+room_check spoiled filled blocks = unless (eqb spoiled 0) JournalSpoiled then unless (ltb filled blocks) JournalFull
 
 -- "wrong signature: 08000020h"; a save or a load fills the next block
 abbrev pub fill_write : Bool → (Channel → Origin) → State → WriteRow
 fill_write signature from u = record {
-  value = unless signature 0x08000020;
+  value = unless signature WrongSignature;
   state = room_check u.saves.spoiled u.saves.filled u.saves.blocks;
   change = λ c. Fill (from c);
 }
 
 -- what a preset makes of its axis, by "6000, 6011, 6014" and the axis
-abbrev pub zeroed_by : Axis → ℕ → State → Zeroed
+abbrev pub zeroed_by : Axis → ℕ → State → Result ℤ Abort
 zeroed_by a v u =
     let s = axis_settings a u.running in
     zeroed (reading a u) u.running.resolution s.operating s.differential (signed 16 v)
 
 -- refused by the rule, or "An accepted write of 6012 stores the preset, and offset = …"
-abbrev pub zero_check : Zeroed → Verdict
-zero_check (To offset) = Pass
-zero_check (Refused code) = Abort code
+abbrev pub zero_check : Result ℤ Abort → Check
+zero_check (Ok offset) = Ok tt
+zero_check (Err why) = Err why
 
-abbrev pub zero_change : Axis → ℕ → Zeroed → Change
-zero_change a v (To offset) = Zero a (signed 16 v) offset
-zero_change a v (Refused code) = Keep
+abbrev pub zero_change : Axis → ℕ → Result ℤ Abort → Change
+zero_change a v (Ok offset) = Zero a (signed 16 v) offset
+zero_change a v (Err why) = Keep
 
-abbrev pub preset_write : Axis → ℕ → Zeroed → WriteRow
-preset_write a v z = record { value = Pass; state = zero_check z; change = λ c. zero_change a v z }
+abbrev pub preset_write : Axis → ℕ → Result ℤ Abort → WriteRow
+preset_write a v z = record { value = Ok tt; state = zero_check z; change = λ c. zero_change a v z }
 
 -- the accepted values of a setting; every i16 is one
 abbrev pub setting_write : Setting → ℕ → State → WriteRow
@@ -118,9 +120,9 @@ write_of (Angle a) v u = read_only_write
 write_of (Of s) v u = setting_write s v u
 
 -- "access, writing read-only (06010002h); length …; value …; device state"
-abbrev pub write_check : ℕ → Object → ℕ → State → Verdict
+abbrev pub write_check : ℕ → Object → ℕ → State → Check
 write_check given o v u =
-    unless (row_of o).writable 0x06010002 then length_check given (row_of o).size then (write_of o v u).value then (write_of o v u).state
+    unless (row_of o).writable ReadOnly then length_check given (row_of o).size then (write_of o v u).value then (write_of o v u).state
 
 abbrev pub change : Channel → Object → ℕ → State → Change
 change c o v u = (write_of o v u).change c

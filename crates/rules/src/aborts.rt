@@ -1,26 +1,42 @@
-// The abort codes of the service channels.
-pub const WRONG_TOGGLE: u32 = 0x05030000;
+// Why a request on a service channel is refused, and the code that its abort carries.
+ghost use Rattle.std.specs.Prelude.{◌≡◌};
+ghost use Rattle.rules.specs.Aborts.{abort_code};
 
-pub const UNKNOWN_COMMAND: u32 = 0x05040001;
+#[derive(Clone, Copy)]
+pub enum Abort {
+    WrongToggle,
+    UnknownCommand,
+    JournalFull,
+    ReadOnly,
+    NoObject,
+    JournalSpoiled,
+    TooLong,
+    TooShort,
+    NoSubindex,
+    WrongValue,
+    WrongSignature,
+    AxisNotGood,
+    NoEntry,
+}
 
-pub const JOURNAL_FULL: u32 = 0x05040005;
+impl From<Abort> for u32 {
+    ghost from_gives = { λ abort code. code ≡ abort_code abort };
 
-pub const READ_ONLY: u32 = 0x06010002;
-
-pub const NO_OBJECT: u32 = 0x06020000;
-
-pub const JOURNAL_SPOILED: u32 = 0x06060000;
-
-pub const TOO_LONG: u32 = 0x06070012;
-
-pub const TOO_SHORT: u32 = 0x06070013;
-
-pub const NO_SUBINDEX: u32 = 0x06090011;
-
-pub const WRONG_VALUE: u32 = 0x06090030;
-
-pub const WRONG_SIGNATURE: u32 = 0x08000020;
-
-pub const AXIS_NOT_GOOD: u32 = 0x08000022;
-
-pub const NO_ENTRY: u32 = 0x08000024;
+    fn from(abort: Abort) -> u32 {
+        match abort {
+            Abort::WrongToggle => 0x05030000,
+            Abort::UnknownCommand => 0x05040001,
+            Abort::JournalFull => 0x05040005,
+            Abort::ReadOnly => 0x06010002,
+            Abort::NoObject => 0x06020000,
+            Abort::JournalSpoiled => 0x06060000,
+            Abort::TooLong => 0x06070012,
+            Abort::TooShort => 0x06070013,
+            Abort::NoSubindex => 0x06090011,
+            Abort::WrongValue => 0x06090030,
+            Abort::WrongSignature => 0x08000020,
+            Abort::AxisNotGood => 0x08000022,
+            Abort::NoEntry => 0x08000024,
+        }
+    }
+}

@@ -72,11 +72,3 @@ pub enum Object {
     Angle(Axis),
     Of(Setting),
 }
-
-// Where an index and a subindex lead.
-#[derive(Clone, Copy)]
-pub enum Found {
-    At(Object),
-    NoObject,
-    NoSubindex,
-}

@@ -41,26 +41,11 @@ pub enum LssCommand {
     Unheard,
 }
 
-// A check: passed, or the abort code.
-#[derive(Clone, Copy)]
-pub enum Verdict {
-    Pass,
-    Abort(u32),
-}
-
-// What a read gives: a number with its length in bytes, the string, or the abort code.
+// What a read gives: a number with its length in bytes, or the string.
 #[derive(Clone, Copy)]
 pub enum Got {
     Number(u8, u32),
     Text,
-    Missing(u32),
-}
-
-// What a preset makes of an axis: its offset, or the abort code.
-#[derive(Clone, Copy)]
-pub enum Zeroed {
-    To(i16),
-    Refused(u32),
 }
 
 // What an accepted request changes, with all that it takes.
@@ -74,11 +59,10 @@ pub enum Change {
     Fill(Origin),
 }
 
-// What a request brings about: a reply of eight bytes or none, the channel's transfer after it, if a channel asked, and the change.
+// What a request brings about: a reply or none, the channel's transfer after it, if a channel asked, and the change.
 #[derive(Clone, Copy)]
 pub struct Outcome {
-    pub replies: bool,
-    pub bytes: [u8; 8],
+    pub reply: Option<[u8; 8]>,
     pub transfer: Transfer,
     pub change: Change,
 }
