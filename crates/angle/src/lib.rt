@@ -8,10 +8,10 @@ ghost use Rattle.rules.specs.Angle.{rounded, steps, q, nearer, sum, rest, turned
 ghost use Rattle.rules.specs.Ranges.{inside, axis_ok};
 ghost use Rattle.rules.specs.Settings.{within};
 
+use rules::aborts::Abort;
 use rules::parts::Reading;
-use rules::requests::Zeroed;
 use rules::settings::AxisSettings;
-use rules::{aborts, states};
+use rules::states;
 
 // What the PDO carries where there is no angle.
 const NO_ANGLE: i16 = -32768;
@@ -179,16 +179,16 @@ fn offset(m: i32, r: u16, operating: u16, differential: i16, preset: i16) -> i32
 }
 
 // What a preset makes of an axis.
-pub fn zeroed(x: Reading, r: u16, operating: u16, differential: i16, preset: i16) -> Zeroed
+pub fn zeroed(x: Reading, r: u16, operating: u16, differential: i16, preset: i16) -> Result<i16, Abort>
     requires { (within Resolution r ≡ true) × (axis_ok x ≡ true) }
     ensures { result ≡ zeroed x r operating differential preset }
 {
     if x.state != states::GOOD {
-        return Zeroed::Refused(aborts::AXIS_NOT_GOOD);
+        return Err(Abort::AxisNotGood);
     }
     let wanted = offset(x.m, r, operating, differential, preset);
     if (-32768 <= wanted) & (wanted <= 32767) {
-        return Zeroed::To(wanted as i16);
+        return Ok(wanted as i16);
     }
-    Zeroed::Refused(aborts::WRONG_VALUE)
+    Err(Abort::WrongValue)
 }

@@ -10,7 +10,7 @@ ghost use Rattle.lss.specs.Sighted.{sighted};
 
 use rules::journal::Origin;
 use rules::parts::{Identity, Lss, Transfer};
-use rules::requests::{Change, IdentityPart, LssCommand, Outcome, Verdict};
+use rules::requests::{Change, IdentityPart, LssCommand, Outcome};
 use rules::states;
 
 // What an LSS request may look at.
@@ -95,8 +95,7 @@ fn said(first: u8, n: u32, change: Change) -> Outcome
     ensures { result ≡ lss_replied first n change }
 {
     Outcome {
-        replies: true,
-        bytes: replies::lss(first, n),
+        reply: Some(replies::lss(first, n)),
         transfer: Transfer {
             stage: states::ABSENT,
         },
@@ -108,8 +107,7 @@ fn silent(change: Change) -> Outcome
     ensures { result ≡ lss_silent change }
 {
     Outcome {
-        replies: false,
-        bytes: [0, 0, 0, 0, 0, 0, 0, 0],
+        reply: None,
         transfer: Transfer {
             stage: states::ABSENT,
         },
@@ -164,14 +162,13 @@ fn set_node(node: u8, mut l: Lss) -> Outcome
 fn store(v: Sight) -> Outcome
     ensures { result ≡ on_store (room_check v.spoiled v.filled v.blocks) (last_set (sighted v)) }
 {
-    let room = checks::room_check(v.spoiled, v.filled, v.blocks);
-    match room {
-        Verdict::Pass => said(
+    match checks::room_check(v.spoiled, v.filled, v.blocks) {
+        Ok(()) => said(
             0x17,
             0,
             Change::Fill(Origin::Stored(node_else(v.lss.node, v.node))),
         ),
-        Verdict::Abort(_) => said(0x17, NO_ROOM, Change::Keep),
+        Err(_) => said(0x17, NO_ROOM, Change::Keep),
     }
 }
 

@@ -6,21 +6,22 @@ ghost use Rattle.rules.specs.Objects.{on_pdo, object_at};
 ghost use Rattle.rules.specs.Requests.{index_of, subindex_of};
 ghost use Rattle.objects.specs.Rows.{only_at, server_at};
 
-use rules::objects::{Axis, Channel, Fixed, Found, Object, PdoNumber, PdoSetting, Setting};
+use rules::aborts::Abort;
+use rules::objects::{Axis, Channel, Fixed, Object, PdoNumber, PdoSetting, Setting};
 
 // An index with the one subindex 0.
-fn only(subindex: u8, o: Object) -> Found
+fn only(subindex: u8, o: Object) -> Result<Object, Abort>
     ensures { result ≡ only_at subindex o }
 {
     if subindex == 0 {
-        Found::At(o)
+        Ok(o)
     } else {
-        Found::NoSubindex
+        Err(Abort::NoSubindex)
     }
 }
 
 #[tactic(auto, unfolding(rules::specs::Objects::find))]
-fn error_list(subindex: u8) -> Found
+fn error_list(subindex: u8) -> Result<Object, Abort>
     ensures { result ≡ object_at 0x1003 subindex }
 {
     let o = match subindex {
@@ -30,37 +31,37 @@ fn error_list(subindex: u8) -> Found
         3 => Object::ErrorEntry(3),
         4 => Object::ErrorEntry(4),
         5 => Object::ErrorEntry(5),
-        _ => return Found::NoSubindex,
+        _ => return Err(Abort::NoSubindex),
     };
-    Found::At(o)
+    Ok(o)
 }
 
 #[tactic(auto, unfolding(rules::specs::Objects::find))]
-fn saving(subindex: u8) -> Found
+fn saving(subindex: u8) -> Result<Object, Abort>
     ensures { result ≡ object_at 0x1010 subindex }
 {
     let o = match subindex {
         0 => Object::Const(Fixed::SaveCount),
         1 => Object::Save,
-        _ => return Found::NoSubindex,
+        _ => return Err(Abort::NoSubindex),
     };
-    Found::At(o)
+    Ok(o)
 }
 
 #[tactic(auto, unfolding(rules::specs::Objects::find))]
-fn loading(subindex: u8) -> Found
+fn loading(subindex: u8) -> Result<Object, Abort>
     ensures { result ≡ object_at 0x1011 subindex }
 {
     let o = match subindex {
         0 => Object::Const(Fixed::LoadCount),
         1 => Object::Load,
-        _ => return Found::NoSubindex,
+        _ => return Err(Abort::NoSubindex),
     };
-    Found::At(o)
+    Ok(o)
 }
 
 #[tactic(auto, unfolding(rules::specs::Objects::find))]
-fn identity(subindex: u8) -> Found
+fn identity(subindex: u8) -> Result<Object, Abort>
     ensures { result ≡ object_at 0x1018 subindex }
 {
     let f = match subindex {
@@ -69,53 +70,53 @@ fn identity(subindex: u8) -> Found
         2 => Fixed::Product,
         3 => Fixed::Revision,
         4 => Fixed::Serial,
-        _ => return Found::NoSubindex,
+        _ => return Err(Abort::NoSubindex),
     };
-    Found::At(Object::Const(f))
+    Ok(Object::Const(f))
 }
 
 // 1200 and 1201.
-fn server(channel: Channel, subindex: u8) -> Found
+fn server(channel: Channel, subindex: u8) -> Result<Object, Abort>
     ensures { result ≡ server_at channel subindex }
 {
     let f = match subindex {
         0 => Fixed::ServerCount(channel),
         1 => Fixed::RequestIdentifier(channel),
         2 => Fixed::ReplyIdentifier(channel),
-        _ => return Found::NoSubindex,
+        _ => return Err(Abort::NoSubindex),
     };
-    Found::At(Object::Const(f))
+    Ok(Object::Const(f))
 }
 
 // A PDO's settings.
 #[tactic(auto, unfolding(rules::specs::Objects::find))]
-fn pdo(number: PdoNumber, subindex: u8) -> Found
+fn pdo(number: PdoNumber, subindex: u8) -> Result<Object, Abort>
     ensures { result ≡ object_at (on_pdo number) subindex }
 {
     let part = match subindex {
-        0 => return Found::At(Object::Const(Fixed::PdoCount(number))),
+        0 => return Ok(Object::Const(Fixed::PdoCount(number))),
         1 => PdoSetting::On,
         2 => PdoSetting::Transmission,
         5 => PdoSetting::Timer,
-        _ => return Found::NoSubindex,
+        _ => return Err(Abort::NoSubindex),
     };
-    Found::At(Object::Of(Setting::Pdo(number, part)))
+    Ok(Object::Of(Setting::Pdo(number, part)))
 }
 
 #[tactic(auto, unfolding(rules::specs::Objects::find))]
-fn mapping(subindex: u8) -> Found
+fn mapping(subindex: u8) -> Result<Object, Abort>
     ensures { result ≡ object_at 0x1A00 subindex }
 {
     let f = match subindex {
         0 => Fixed::MappingCount,
         1 => Fixed::Mapped(Axis::X),
         2 => Fixed::Mapped(Axis::Y),
-        _ => return Found::NoSubindex,
+        _ => return Err(Abort::NoSubindex),
     };
-    Found::At(Object::Const(f))
+    Ok(Object::Const(f))
 }
 
-pub fn object_at(index: u16, subindex: u8) -> Found
+pub fn object_at(index: u16, subindex: u8) -> Result<Object, Abort>
     ensures { result ≡ object_at index subindex }
 {
     let o = match index {
@@ -146,13 +147,13 @@ pub fn object_at(index: u16, subindex: u8) -> Found
         0x6022 => Object::Of(Setting::Preset(Axis::Y)),
         0x6023 => Object::Of(Setting::Offset(Axis::Y)),
         0x6024 => Object::Of(Setting::Differential(Axis::Y)),
-        _ => return Found::NoObject,
+        _ => return Err(Abort::NoObject),
     };
     only(subindex, o)
 }
 
 // The object that a request names by its bytes 1 to 3.
-pub fn named_by(request: [u8; 8]) -> Found
+pub fn named_by(request: [u8; 8]) -> Result<Object, Abort>
     ensures { result ≡ object_at (index_of request) (subindex_of request) }
 {
     object_at(requests::index(request), requests::subindex(request))

@@ -2,11 +2,12 @@
 #![tactic(auto)]
 
 ghost use Rattle.std.specs.Prelude.{◌≡◌, ◌∷◌};
+ghost use Rattle.rules.specs.Aborts.{abort_code};
 ghost use Rattle.rules.specs.Lss.{lss_reply};
 ghost use Rattle.rules.specs.Numbers.{four};
 ghost use Rattle.rules.specs.Replies.{reply as replyOf, read_first, first_segment, last_segment, wrong_toggle, no_transfer};
 
-use rules::aborts;
+use rules::aborts::Abort;
 
 // The first byte, the next three of the request that it replies to, and a number.
 #[tactic(auto, unfolding(rules::specs::Replies::reply))]
@@ -52,20 +53,20 @@ pub fn last_segment() -> [u8; 8]
 
 // What a segment gets that cannot be had: an abort that names an index, its low byte first, and subindex 0.
 #[tactic(auto, unfolding(rules::specs::Replies::reply))]
-fn refused_segment(low: u8, high: u8, code: u32) -> [u8; 8]
-    ensures { result ≡ 0x80 ∷ low ∷ high ∷ 0 ∷ four code }
+fn refused_segment(low: u8, high: u8, why: Abort) -> [u8; 8]
+    ensures { result ≡ 0x80 ∷ low ∷ high ∷ 0 ∷ four (abort_code why) }
 {
-    reply(0x80, [0, low, high, 0, 0, 0, 0, 0], code)
+    reply(0x80, [0, low, high, 0, 0, 0, 0, 0], u32::from(why))
 }
 
 pub fn wrong_toggle() -> [u8; 8]
     ensures { result ≡ wrong_toggle }
 {
-    refused_segment(0x08, 0x10, aborts::WRONG_TOGGLE)
+    refused_segment(0x08, 0x10, Abort::WrongToggle)
 }
 
 pub fn no_transfer() -> [u8; 8]
     ensures { result ≡ no_transfer }
 {
-    refused_segment(0, 0, aborts::UNKNOWN_COMMAND)
+    refused_segment(0, 0, Abort::UnknownCommand)
 }

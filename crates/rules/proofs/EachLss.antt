@@ -70,7 +70,7 @@ module _ (request : List ℕ) (u : State) (P : Outcome → Type 0) where
         (λ no. each.answered 0x11 1 refl)
 
     stores : (v : Check) → room_check u.saves.spoiled u.saves.filled u.saves.blocks ≡ v → P (on_store v (last_set u))
-    stores (Ok tt) e = each.stored e
+    stores (Ok passed) e = each.stored e
     stores (Err why) e = each.answered 0x17 2 refl
 
     tells_not : (p : IdentityPart) (n : ℕ) → NoStore (0x5A + matches_before p) n

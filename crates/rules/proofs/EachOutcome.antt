@@ -42,7 +42,7 @@ module _ (c : Channel) (request : List ℕ) (u : State) (P : Outcome → Type 0)
 
   module _ (each : Each) where
     writes : (v : Check) (e : Change) → (v ≡ Ok tt → P (replied (written request) absent e)) → P (on_write request v e)
-    writes (Ok tt) e h = h refl
+    writes (Ok passed) e h = h refl
     writes (Err why) e h = each.aborted why
 
     reads : (g : Result Got Abort) → P (on_read request g)

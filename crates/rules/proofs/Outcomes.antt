@@ -67,11 +67,11 @@ Allowed u (Fill o) = (u.saves.filled < u.saves.blocks) × (u.saves.spoiled ≡ 0
 
 -- the first and the last check pass where the whole chain does
 pub passes-first : (v w : Check) → v then w ≡ Ok tt → v ≡ Ok tt
-passes-first (Ok tt) w e = refl
+passes-first (Ok passed) w e = refl
 passes-first (Err why) w e = let z : ◌≡◌ {A = ℕ} 0 1 = cc in absurd (omega arith)
 
 pub passes-last : (v w : Check) → v then w ≡ Ok tt → w ≡ Ok tt
-passes-last (Ok tt) w e = e
+passes-last (Ok passed) w e = e
 passes-last (Err why) w e = let z : ◌≡◌ {A = ℕ} 0 1 = cc in absurd (omega arith)
 
 passes : (t : Bool) (why : Abort) → unless t why ≡ Ok tt → t ≡ true

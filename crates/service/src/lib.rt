@@ -9,26 +9,25 @@ ghost use Rattle.rules.specs.declared.requests.Change.TheVariants.{Keep};
 ghost use Rattle.rules.specs.Objects.{object_at};
 ghost use Rattle.rules.specs.Requests;
 ghost use Rattle.rules.specs.Service;
-ghost use Rattle.rules.specs.Service.{replied, missing_code, on_read, on_segment, on_command};
+ghost use Rattle.rules.specs.Service.{replied, on_segment, on_command};
 ghost use Rattle.view.specs.Seen.{viewed, Sound};
 ghost use Rattle.rules.specs.State.{place, absent, transferring, no_transfers};
 ghost use Rattle.service.specs.Transfers.{transfers_after};
-ghost use Rattle.service.specs.Wrote;
+ghost use Rattle.service.specs.Told.{told};
 
-use rules::objects::{Channel, Found};
+use rules::aborts::Abort;
+use rules::objects::Channel;
 use rules::parts::Transfer;
 use rules::requests::{Caller, Change, Command, Got, Outcome};
-use rules::{aborts, states};
+use rules::states;
 use view::View;
-use writes::Written;
 
 // A reply with no change.
 fn said(bytes: [u8; 8], stage: u8) -> Outcome
     ensures { result ≡ replied bytes stage Keep }
 {
     Outcome {
-        replies: true,
-        bytes,
+        reply: Some(bytes),
         transfer: Transfer { stage },
         change: Change::Keep,
     }
@@ -38,18 +37,17 @@ fn silent(transfer: Transfer) -> Outcome
     ensures { result ≡ Service.silent transfer }
 {
     Outcome {
-        replies: false,
-        bytes: [0, 0, 0, 0, 0, 0, 0, 0],
+        reply: None,
         transfer,
         change: Change::Keep,
     }
 }
 
 // An abort ends the transfer.
-fn refuse(request: [u8; 8], code: u32) -> Outcome
-    ensures { result ≡ Service.refuse request code }
+fn refuse(request: [u8; 8], why: Abort) -> Outcome
+    ensures { result ≡ Service.refuse request why }
 {
-    said(replies::reply(0x80, request, code), states::ABSENT)
+    said(replies::reply(0x80, request, u32::from(why)), states::ABSENT)
 }
 
 #[tactic(auto, unfolding(rules::specs::Service::on_segment))]
@@ -71,85 +69,61 @@ fn segment(toggle: u8, transfer: Transfer) -> Outcome
     said(replies::wrong_toggle(), states::ABSENT)
 }
 
-// Why no object is there; 0 where one is.
-fn missing_code(found: Found) -> u32
-    ensures { result ≡ missing_code found }
-{
-    match found {
-        Found::At(_) => 0,
-        Found::NoObject => aborts::NO_OBJECT,
-        Found::NoSubindex => aborts::NO_SUBINDEX,
-    }
-}
-
 // The string begins a transfer.
-fn read_outcome(request: [u8; 8], got: Got) -> Outcome
-    ensures { result ≡ on_read request got }
+fn read(request: [u8; 8], v: View) -> Result<Outcome, Abort>
+    requires { Sound v }
+    ensures { (c : Channel) → told request result ≡ on_command c request Read (object_at (Requests.index_of request) (Requests.subindex_of request)) (viewed v) }
 {
-    match got {
-        Got::Number(size, n) => said(
+    let o = objects::named_by(request)?;
+    match reads::read(o, v)? {
+        Got::Number(size, n) => Ok(said(
             replies::reply(replies::read_first(size), request, n),
             states::ABSENT,
-        ),
-        Got::Text => said(replies::reply(0x41, request, 10), states::AT_START),
-        Got::Missing(code) => refuse(request, code),
+        )),
+        Got::Text => Ok(said(replies::reply(0x41, request, 10), states::AT_START)),
     }
-}
-
-fn write_outcome(request: [u8; 8], written: Written) -> Outcome
-    ensures { result ≡ Wrote.outcome_of_write request written }
-{
-    match written {
-        Written::Changes(change) => Outcome {
-            replies: true,
-            bytes: replies::reply(0x60, request, 0),
-            transfer: Transfer {
-                stage: states::ABSENT,
-            },
-            change,
-        },
-        Written::Refused(code) => refuse(request, code),
-    }
-}
-
-fn read(request: [u8; 8], v: View) -> Outcome
-    requires { Sound v }
-    ensures { (c : Channel) → result ≡ on_command c request Read (object_at (Requests.index_of request) (Requests.subindex_of request)) (viewed v) }
-{
-    let found = objects::named_by(request);
-    let Found::At(o) = found else {
-        return refuse(request, missing_code(found));
-    };
-    read_outcome(request, reads::read(o, v))
 }
 
 // The value is taken in the object's own length; the checks judge the length that is given.
-fn write(channel: Channel, request: [u8; 8], given: u8, v: View) -> Outcome
+fn write(channel: Channel, request: [u8; 8], given: u8, v: View) -> Result<Outcome, Abort>
     requires { Sound v }
-    ensures { result ≡ on_command channel request (Write given) (object_at (Requests.index_of request) (Requests.subindex_of request)) (viewed v) }
+    ensures { told request result ≡ on_command channel request (Write given) (object_at (Requests.index_of request) (Requests.subindex_of request)) (viewed v) }
 {
-    let found = objects::named_by(request);
-    let Found::At(o) = found else {
-        return refuse(request, missing_code(found));
-    };
+    let o = objects::named_by(request)?;
     let value = requests::value(rows::size(o), request);
-    write_outcome(request, writes::write(channel, given, o, value, v))
+    let change = writes::write(channel, given, o, value, v)?;
+    Ok(Outcome {
+        reply: Some(replies::reply(0x60, request, 0)),
+        transfer: Transfer {
+            stage: states::ABSENT,
+        },
+        change,
+    })
 }
 
 // By the first byte.
+fn accept(channel: Channel, request: [u8; 8], v: View) -> Result<Outcome, Abort>
+    requires { Sound v }
+    ensures { told request result ≡ on_command channel request (Requests.command request) (object_at (Requests.index_of request) (Requests.subindex_of request)) (viewed v) }
+{
+    match requests::command(request[0]) {
+        Command::Write(given) => write(channel, request, given, v),
+        Command::Read => read(request, v),
+        Command::Segment(toggle) => Ok(segment(toggle, v.transfer)),
+        Command::End => Ok(silent(Transfer {
+            stage: states::ABSENT,
+        })),
+        Command::Unknown => Err(Abort::UnknownCommand),
+    }
+}
+
 fn serve(channel: Channel, request: [u8; 8], v: View) -> Outcome
     requires { Sound v }
     ensures { result ≡ on_command channel request (Requests.command request) (object_at (Requests.index_of request) (Requests.subindex_of request)) (viewed v) }
 {
-    let command = requests::command(request[0]);
-    match command {
-        Command::Write(given) => write(channel, request, given, v),
-        Command::Read => read(request, v),
-        Command::Segment(toggle) => segment(toggle, v.transfer),
-        Command::End => silent(Transfer {
-            stage: states::ABSENT,
-        }),
-        Command::Unknown => refuse(request, aborts::UNKNOWN_COMMAND),
+    match accept(channel, request, v) {
+        Ok(outcome) => outcome,
+        Err(why) => refuse(request, why),
     }
 }
 

@@ -1,10 +1,9 @@
--- A write that its checks let pass changes, and one that they refuse gives the code.
+-- A write that its checks let pass changes, and one that they refuse says why.
+use Rattle.std.specs.Prelude.{Result, Ok, Err}
+use Rattle.rules.specs.declared.aborts.Abort.{Abort}
 use Rattle.rules.specs.declared.requests.Change.{Change}
-use Rattle.rules.specs.declared.requests.Verdict.{Verdict}
-use Rattle.rules.specs.declared.requests.Verdict.TheVariants.{Pass, Abort}
-use Rattle.writes.specs.declared.Written.{Written}
-use Rattle.writes.specs.declared.Written.TheVariants.{Changes, Refused}
+use Rattle.rules.specs.Writes.{Check}
 
-abbrev pub written_of : Verdict → Change → Written
-written_of Pass e = Changes e
-written_of (Abort code) e = Refused code
+abbrev pub written_of : Check → Change → Result Change Abort
+written_of (Ok passed) e = Ok e
+written_of (Err why) e = Err why
