@@ -77,11 +77,11 @@ pub fn setting_value(s: Setting, v: View) -> u32
 {
     match s {
         Setting::Heartbeat => v.running.heartbeat as u32,
-        Setting::Pdo(number, part) => pdo_value(number, part, v.running.pdo, v.node),
+        Setting::Pdo(number, part) => pdo_value(number, part, v.running.pdo(number), v.node),
         Setting::Resolution => v.running.resolution as u32,
-        Setting::Operating(axis) => v.settings(axis).operating as u32,
-        Setting::Preset(axis) => v.settings(axis).preset.cast_unsigned() as u32,
-        Setting::Offset(axis) => v.settings(axis).offset.cast_unsigned() as u32,
-        Setting::Differential(axis) => v.settings(axis).differential.cast_unsigned() as u32,
+        Setting::Operating(axis) => v.running.axis(axis).operating as u32,
+        Setting::Preset(axis) => v.running.axis(axis).preset.cast_unsigned() as u32,
+        Setting::Offset(axis) => v.running.axis(axis).offset.cast_unsigned() as u32,
+        Setting::Differential(axis) => v.running.axis(axis).differential.cast_unsigned() as u32,
     }
 }

@@ -2,14 +2,13 @@
 #![tactic(auto)]
 
 ghost use Rattle.std.specs.Prelude.{◌≡◌};
-ghost use Rattle.rules.specs.Settings.{axis_settings};
 ghost use Rattle.rules.specs.State.{reading};
 ghost use Rattle.view.specs.Seen.{viewed};
 
 use rules::errors::ErrorList;
 use rules::objects::Axis;
 use rules::parts::{Identity, Reading, Transfer};
-use rules::settings::{AxisSettings, Settings};
+use rules::settings::Settings;
 
 #[derive(Clone, Copy)]
 pub struct View {
@@ -34,11 +33,5 @@ impl View {
             Axis::X => self.x,
             Axis::Y => self.y,
         }
-    }
-
-    pub fn settings(self, axis: Axis) -> AxisSettings
-        ensures { result ≡ axis_settings axis self.running }
-    {
-        self.running.axis(axis)
     }
 }
