@@ -1,4 +1,6 @@
 -- A request's outcome depends on what the request reads and writes, on its channel's transfer and on what no request changes, alone.
+use lib.IntN.{ℤ}
+use Rattle.std.specs.Prelude.{Result, Ok, Err}
 use mathlib.Core.Path.{◌≡◌, refl, ap, sym, ◌∙◌, subst, subst₂}
 use mathlib.Core.Bool.{Bool, false, cond, ◌||◌}
 use mathlib.Core.List.{List}
@@ -8,14 +10,14 @@ use Rattle.laws.proofs.Bools.{or_left, or_right}
 use Rattle.rules.proofs.BySetting.{settings_of}
 use Rattle.rules.proofs.EachOutcome.{each_outcome}
 use Rattle.rules.proofs.Named.{Names, named}
+use Rattle.rules.specs.declared.aborts.Abort.TheVariants.{ReadOnly, WrongSignature}
+use Rattle.rules.specs.declared.aborts.Abort.{Abort}
 use Rattle.rules.specs.declared.journal.Origin.{Origin}
 use Rattle.rules.specs.declared.journal.Origin.TheVariants.{Saved, Loaded}
 use Rattle.rules.specs.declared.objects.Axis.{Axis}
 use Rattle.rules.specs.declared.objects.Axis.TheVariants.{X, Y}
 use Rattle.rules.specs.declared.objects.Channel.{Channel}
 use Rattle.rules.specs.declared.objects.Channel.TheVariants.{One, Two}
-use Rattle.rules.specs.declared.objects.Found.{Found}
-use Rattle.rules.specs.declared.objects.Found.TheVariants.{At, NoObject, NoSubindex}
 use Rattle.rules.specs.declared.objects.Object.{Object}
 use Rattle.rules.specs.declared.objects.Object.TheVariants.{Const, ErrorCount, ErrorEntry, Name, Save, Load, Filled, Angle, Of}
 use Rattle.rules.specs.declared.objects.PdoNumber.TheVariants.{First}
@@ -27,8 +29,6 @@ use Rattle.rules.specs.declared.requests.Command.{Command}
 use Rattle.rules.specs.declared.requests.Command.TheVariants.{Write, Read, Segment, End, Unknown}
 use Rattle.rules.specs.declared.requests.Got.TheVariants.{Number}
 use Rattle.rules.specs.declared.requests.Outcome.{Outcome}
-use Rattle.rules.specs.declared.requests.Zeroed.{Zeroed}
-use Rattle.rules.specs.declared.requests.Zeroed.TheVariants.{To, Refused}
 use Rattle.rules.specs.Objects.{row_of, setting_row, object_at}
 use Rattle.rules.specs.Reads.{read_of, setting_value}
 use Rattle.rules.specs.Requests.{command, index_of, subindex_of, value_for}
@@ -85,12 +85,12 @@ module _ (c : Channel) (u w : State) where
   read_alike Name h = refl
   read_alike Save h = refl
   read_alike Load h = refl
-  read_alike Filled h = let k = h kept tt in λ i. Number 2 (k i).filled
+  read_alike Filled h = let k = h kept tt in λ i. Ok (Number 2 (k i).filled)
   read_alike (Angle a) h = angle-alike a h
   read_alike (Of s) h =
       let t = h rest tt in
       let x = h (running s) (own Read (setting_row s).index (setting_row s).subindex tt) in
-      λ i. Number (setting_row s).size (setting_value s (t i).node (x i))
+      λ i. Ok (Number (setting_row s).size (setting_value s (t i).node (x i)))
 
   module _ (given : ℕ) where
     -- "6012 also reads 6000, 6011, 6014"
@@ -134,7 +134,7 @@ module _ (c : Channel) (u w : State) where
     -- a save and a load, by their signature and what their block comes from
     fill_alike : (signature : Bool) (from : Channel → Origin) → get rest u ≡ get rest w → get kept u ≡ get kept w → fill_write signature from u ≡ fill_write signature from w
     fill_alike signature from t k = λ i. record {
-      value = unless signature 0x08000020;
+      value = unless signature WrongSignature;
       state = room_check (t i).spoiled (k i).filled (t i).blocks;
       change = λ c. Fill (from c);
     }
@@ -151,9 +151,9 @@ module _ (c : Channel) (u w : State) where
     write_alike (Of s) v h = setting-alike s v h
 
     -- the settings beside a change: a save's are the running ones, and no other change of a request's stores what runs or was stored
-    zero-stores : (a : Axis) (v : ℕ) (z : Zeroed) (y : State) → beside (zero_change a v z) y ≡ factory
-    zero-stores a v (To offset) y = refl
-    zero-stores a v (Refused code) y = refl
+    zero-stores : (a : Axis) (v : ℕ) (z : Result ℤ Abort) (y : State) → beside (zero_change a v z) y ≡ factory
+    zero-stores a v (Ok offset) y = refl
+    zero-stores a v (Err why) y = refl
 
     setting-stores : (s : Setting) (v : ℕ) (z y : State) → beside ((setting_write s v z).change c) y ≡ factory
     setting-stores Heartbeat v z y = refl
@@ -175,16 +175,14 @@ module _ (c : Channel) (u w : State) where
     change-stores (Angle a) v z h = refl
     change-stores (Of s) v z h = setting-stores s v z u ∙ sym (setting-stores s v z w)
 
-  command-alike : (request : List ℕ) (k : Command) (i s : ℕ) (f : Found) → Names f i s → Alike c k i s u w → on_command c request k f u ≡ on_command c request k f w
-  command-alike request (Write given) i s (At o) n h =
+  command-alike : (request : List ℕ) (k : Command) (i s : ℕ) (f : Result Object Abort) → Names f i s → Alike c k i s u w → on_command c request k f u ≡ on_command c request k f w
+  command-alike request (Write given) i s (Ok o) n h =
       let g : For (Write given) o = subst₂ (λ (i s : ℕ). Alike c (Write given) i s u w) n.0 n.1 h in
-      ap (λ (row : WriteRow). on_write request (unless (row_of o).writable 0x06010002 then length_check given (row_of o).size then row.value then row.state) (row.change c))
+      ap (λ (row : WriteRow). on_write request (unless (row_of o).writable ReadOnly then length_check given (row_of o).size then row.value then row.state) (row.change c))
       (write_alike given o (value_for o request) g)
-  command-alike request (Write given) i s NoObject n h = refl
-  command-alike request (Write given) i s NoSubindex n h = refl
-  command-alike request Read i s (At o) n h = ap (on_read request) (read_alike o (subst₂ (λ (i s : ℕ). Alike c Read i s u w) n.0 n.1 h))
-  command-alike request Read i s NoObject n h = refl
-  command-alike request Read i s NoSubindex n h = refl
+  command-alike request (Write given) i s (Err why) n h = refl
+  command-alike request Read i s (Ok o) n h = ap (on_read request) (read_alike o (subst₂ (λ (i s : ℕ). Alike c Read i s u w) n.0 n.1 h))
+  command-alike request Read i s (Err why) n h = refl
   command-alike request (Segment toggle) i s f n h = ap (on_segment toggle) (by c h)
     where
       by : (c : Channel) → Alike c (Segment toggle) i s u w → get (transfer c) u ≡ get (transfer c) w
@@ -223,7 +221,7 @@ stores-alike c request u w h =
     })
     ∙ ap (λ (o : Outcome). beside o.change w) (outcome-alike c request u w h)
   where
-    its : (given : ℕ) (o : Object) → command request ≡ Write given → object_at (index_of request) (subindex_of request) ≡ At o → For c u w (Write given) o
+    its : (given : ℕ) (o : Object) → command request ≡ Write given → object_at (index_of request) (subindex_of request) ≡ Ok o → For c u w (Write given) o
     its given o p q =
-        let n = subst (λ (f : Found). Names f (index_of request) (subindex_of request)) q (named (index_of request) (subindex_of request)) in
+        let n = subst (λ (f : Result Object Abort). Names f (index_of request) (subindex_of request)) q (named (index_of request) (subindex_of request)) in
         subst₂ (λ (i s : ℕ). Alike c (Write given) i s u w) n.0 n.1 (subst (λ (k : Command). Alike c k (index_of request) (subindex_of request) u w) p h)

@@ -1,4 +1,5 @@
 -- A request leaves every cell that it does not write, its channel's transfer and the counts apart.
+use Rattle.std.specs.Prelude.{Result, Ok, Err}
 use mathlib.Core.Path.{◌≡◌, refl, subst}
 use mathlib.Core.Bool.{Bool, true, false, cond, ◌&&◌, ◌||◌}
 use mathlib.Core.List.{List}
@@ -9,6 +10,7 @@ use Rattle.rules.proofs.BySetting.{valued, zeroed_at, on_setting}
 use Rattle.rules.proofs.EachOutcome.{each_outcome}
 use Rattle.rules.proofs.Named.{Names, named}
 use Rattle.rules.proofs.Selection.{service-apart}
+use Rattle.rules.specs.declared.aborts.Abort.{Abort}
 use Rattle.rules.specs.declared.errors.ErrorList.{ErrorList}
 use Rattle.rules.specs.declared.journal.Origin.{Origin}
 use Rattle.rules.specs.declared.journal.Origin.TheVariants.{Saved, Loaded}
@@ -16,8 +18,6 @@ use Rattle.rules.specs.declared.objects.Axis.{Axis}
 use Rattle.rules.specs.declared.objects.Axis.TheVariants.{X, Y}
 use Rattle.rules.specs.declared.objects.Channel.{Channel}
 use Rattle.rules.specs.declared.objects.Channel.TheVariants.{One, Two}
-use Rattle.rules.specs.declared.objects.Found.{Found}
-use Rattle.rules.specs.declared.objects.Found.TheVariants.{At}
 use Rattle.rules.specs.declared.objects.Object.{Object}
 use Rattle.rules.specs.declared.objects.Object.TheVariants.{Const, ErrorCount, ErrorEntry, Name, Save, Load, Filled, Angle, Of}
 use Rattle.rules.specs.declared.objects.Setting.{Setting}
@@ -28,8 +28,6 @@ use Rattle.rules.specs.declared.requests.Change.{Change}
 use Rattle.rules.specs.declared.requests.Change.TheVariants.{Keep, Put, Fill}
 use Rattle.rules.specs.declared.requests.Command.{Command}
 use Rattle.rules.specs.declared.requests.Command.TheVariants.{Write}
-use Rattle.rules.specs.declared.requests.Zeroed.{Zeroed}
-use Rattle.rules.specs.declared.requests.Zeroed.TheVariants.{To, Refused}
 use Rattle.rules.specs.declared.settings.Settings.{Settings}
 use Rattle.rules.specs.Numbers.{signed}
 use Rattle.rules.specs.Objects.{same_setting, setting_row, row_of, object_at}
@@ -86,9 +84,9 @@ module _ (given : ℕ) where
   zero-leaves Y preset offset (Offset Y) x h = absurd (h tt)
   zero-leaves a preset offset (Differential b) x h = refl
 
-  preset-leaves : (a : Axis) (v : ℕ) (z : Zeroed) → Written (Of (Preset a)) (zero_change a v z)
-  preset-leaves a v (To offset) = record { running = zero-leaves a (signed 16 v) offset; errors = λ x h. refl; kept = λ t x h. refl }
-  preset-leaves a v (Refused code) = keep-leaves (Write given) _ 0
+  preset-leaves : (a : Axis) (v : ℕ) (z : Result ℤ Abort) → Written (Of (Preset a)) (zero_change a v z)
+  preset-leaves a v (Ok offset) = record { running = zero-leaves a (signed 16 v) offset; errors = λ x h. refl; kept = λ t x h. refl }
+  preset-leaves a v (Err why) = keep-leaves (Write given) _ 0
 
   module _ (c : Channel) (v : ℕ) (u : State) where
     setting-leaves : (s : Setting) → Written (Of s) ((setting_write s v u).change c)
@@ -121,9 +119,9 @@ module _ (c : Channel) (request : List ℕ) (u : State) where
   abbrev Left : Change → Type 0
   Left e = Leaves (command request) (index_of request) (subindex_of request) e
 
-  wrote-leaves : (given : ℕ) (o : Object) (v : ℕ) → command request ≡ Write given → object_at (index_of request) (subindex_of request) ≡ At o → Left (change c o v u)
+  wrote-leaves : (given : ℕ) (o : Object) (v : ℕ) → command request ≡ Write given → object_at (index_of request) (subindex_of request) ≡ Ok o → Left (change c o v u)
   wrote-leaves given o v p q =
-      let n = subst (λ (f : Found). Names f (index_of request) (subindex_of request)) q (named (index_of request) (subindex_of request)) in
+      let n = subst (λ (f : Result Object Abort). Names f (index_of request) (subindex_of request)) q (named (index_of request) (subindex_of request)) in
       rw (p, n.0, n.1) (change-leaves given c v u o)
 
   outcome-leaves : Left (outcome c request u).change

@@ -8,7 +8,7 @@ use Rattle.rules.specs.declared.objects.Channel.TheVariants.{One, Two}
 use Rattle.rules.specs.declared.requests.Caller.TheVariants.{Client}
 use Rattle.rules.specs.declared.requests.Outcome.{Outcome}
 use Rattle.rules.specs.Events.{answered}
-use Rattle.rules.specs.Frames.{reply_frame}
+use Rattle.rules.specs.Frames.{reply_frames}
 use Rattle.rules.specs.Results.{Result}
 use Rattle.rules.specs.Service.{outcome}
 use Rattle.rules.specs.State.{State}
@@ -34,7 +34,7 @@ module _ (c d : Channel) (two : T (same_channel c d) → ⊥) (back : T (same_ch
   past_by : (p q : Bool) (f g : RunFrame) → (T p → T q → Apart f.bytes g.bytes) → (u : State) →
       ◌≡◌ {A = Answer} ((does q d g (does p c f u).state).refusal, (does q d g (does p c f u).state).sent) ((does q d g u).refusal, (does q d g u).sent)
   past_by true true f g h u =
-      ap (λ (o : Outcome). (0, cond o.replies (reply_frame (Client d) u.node o.bytes ∷ []) [])) (outcome_past c d two f.bytes g.bytes (h tt tt).0 u)
+      ap (λ (o : Outcome). (0, reply_frames (Client d) u.node o.reply)) (outcome_past c d two f.bytes g.bytes (h tt tt).0 u)
   past_by true false f g h u = refl
   past_by false true f g h u = refl
   past_by false false f g h u = refl

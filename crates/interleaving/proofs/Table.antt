@@ -1,4 +1,5 @@
 -- The table row by row, computed over all objects; and what is no object has no line.
+use Rattle.std.specs.Prelude.{Result, Ok, Err}
 use mathlib.Core.Path.{◌≡◌, refl}
 use mathlib.Core.Bool.{Bool, true, false, ◌&&◌}
 use mathlib.Core.List.{List, [], ◌∷◌}
@@ -6,8 +7,7 @@ use Prim.Native.Nat.{ℕ}
 use lib.Dec.{eqb}
 use borrow.Author.Tests.{eqb-true}
 use Rattle.laws.proofs.Bools.{no, left, right, cond-each}
-use Rattle.rules.specs.declared.objects.Found.{Found}
-use Rattle.rules.specs.declared.objects.Found.TheVariants.{At, NoObject, NoSubindex}
+use Rattle.rules.specs.declared.aborts.Abort.{Abort}
 use Rattle.rules.specs.declared.objects.Object.{Object}
 use Rattle.rules.specs.Objects.{find, object_at}
 use Rattle.interleaving.specs.ReadsWrites.{Named, Line, line, is, also, read_reads, write_reads, write_writes}
@@ -20,20 +20,18 @@ pub others : Others
 others = (λ i s. refl, λ toggle. (λ i s. refl, λ i s. refl), (λ i s. refl, λ i s. refl), (λ i s. refl, λ i s. refl))
 
 -- every line is an object's
-abbrev found : Found → Bool
-found (At o) = true
-found NoObject = false
-found NoSubindex = false
+abbrev found : Result Object Abort → Bool
+found (Ok o) = true
+found (Err why) = false
 
 abbrev of_objects : List Line → Bool
 of_objects [] = true
 of_objects (line j t ns ∷ lines) = found (object_at j t) && of_objects lines
 
-module _ (i s : ℕ) (none : (o : Object) → object_at i s ≡ At o → ⊥) where
-  not_found : (f : Found) → object_at i s ≡ f → found f ≡ true → ⊥
-  not_found (At o) e t = none o e
-  not_found NoObject e t = no t
-  not_found NoSubindex e t = no t
+module _ (i s : ℕ) (none : (o : Object) → object_at i s ≡ Ok o → ⊥) where
+  not_found : (f : Result Object Abort) → object_at i s ≡ f → found f ≡ true → ⊥
+  not_found (Ok o) e t = none o e
+  not_found (Err why) e t = no t
 
   no_line : (lines : List Line) → of_objects lines ≡ true → also i s lines ≡ []
   no_line [] e = refl

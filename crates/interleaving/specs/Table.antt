@@ -1,6 +1,5 @@
 -- The table row by row: for every object, what a read of it reads, and what a write of it reads and writes.
-use Rattle.std.specs.Prelude.{◌≡◌, List, [], ◌∷◌, map, ℕ}
-use Rattle.rules.specs.declared.objects.Found.TheVariants.{At}
+use Rattle.std.specs.Prelude.{◌≡◌, List, [], ◌∷◌, map, ℕ, Ok}
 use Rattle.rules.specs.declared.objects.Object.{Object}
 use Rattle.rules.specs.declared.requests.Command.{Command}
 use Rattle.rules.specs.declared.requests.Command.TheVariants.{Write, Read, Segment, End, Unknown}
@@ -49,7 +48,7 @@ RowByRow = (given : ℕ) → map (λ o. row_by given (row_of o).index (row_of o)
 
 -- what is no object has nothing but its own numbers
 abbrev pub NoFurtherRow : Type 0
-NoFurtherRow = (given i s : ℕ) → ((o : Object) → object_at i s ≡ At o → ⊥) → row_by given i s ≡ plain_row i s
+NoFurtherRow = (given i s : ℕ) → ((o : Object) → object_at i s ≡ Ok o → ⊥) → row_by given i s ≡ plain_row i s
 
 -- a read writes nothing, and "Others: nothing": the next segment, 80h and every other first byte
 abbrev pub WritesNothing : Command → Type 0
