@@ -4,7 +4,7 @@
 ghost use Rattle.std.specs.Prelude.{◌≡◌, nat_abs};
 
 use rules::journal;
-use rules::origins::{Bringer, Brought};
+use rules::origins::{Bringer, Brought, NoOrigin};
 use std::io;
 
 pub fn print(rt: &impl Print, text: &[u8]) -> io::Result<()> {
@@ -43,18 +43,18 @@ pub fn print_bringer(rt: &impl Print, bringer: Bringer) -> io::Result<()> {
     print_kind(rt, bringer.kind)
 }
 
-pub fn print_brought(rt: &impl Print, brought: Brought) -> io::Result<()> {
-    match brought {
-        Brought::ByBlock(value, bringer) => {
+pub fn print_origin(rt: &impl Print, origin: Result<Brought, NoOrigin>) -> io::Result<()> {
+    match origin {
+        Ok(Brought::ByBlock(value, bringer)) => {
             print_number(rt, value)?;
             print(rt, b" ")?;
             print_bringer(rt, bringer)?;
         }
-        Brought::ByFactory(value) => {
+        Ok(Brought::ByFactory(value)) => {
             print_number(rt, value)?;
             print(rt, b" factory")?;
         }
-        Brought::Refused(number) => print!(rt; "R {number}")?,
+        Err(refusal) => print!(rt; "R {}", u32::from(refusal))?,
     }
     print(rt, b"\n")
 }
