@@ -6,15 +6,15 @@ ghost use Rattle.stack_probe.specs.Probed.{probed};
 
 const MOST_BLOCKS: usize = 4096;
 
-#[tactic(auto, unfolding(crate::specs::Probed::probed))]
+#[tactic(auto, unfolding(crate::specs::Probed::probed, rules::specs::PowerOn::saves_in))]
 #[unsafe(no_mangle)]
 pub extern "C" fn stack_probe(journal: &[u8]) -> u32
     ensures { result ≡ probed journal.now }
 {
     let blocks = journal.len() / 512;
     if (blocks <= MOST_BLOCKS) & (journal.len() == 512 * blocks) {
-        let counted = journal::count(journal, blocks as u16);
-        return (counted.filled as u32) + 65536 * (counted.spoiled as u32);
+        let saves = journal::saves_in(journal);
+        return u32::from(saves.filled) + 65536 * u32::from(saves.spoiled);
     }
     0
 }
