@@ -83,6 +83,7 @@ pub fn pdo_at(number: PdoNumber) -> u16
     }
 }
 
+#[tactic(auto, unfolding(rules::specs::Frames::pdo_frame))]
 pub fn pdo(number: PdoNumber, node: u8, x: Reading, y: Reading, s: Settings) -> Frame
     requires { (in_table s ≡ true) × ((axis_ok x ≡ true) × (axis_ok y ≡ true)) }
     ensures { result ≡ pdo_frame number node x y s }

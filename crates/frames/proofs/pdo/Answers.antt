@@ -1,7 +1,6 @@
 -- `pdo` meets its contract: settings within the table have a resolution that the angles of both axes go by.
 use Rattle.rules.proofs.Table.{setting_in}
 use Rattle.rules.specs.declared.objects.Setting.TheVariants.{Resolution}
-use Rattle.rules.specs.Frames.{pdo_frame}
 use Rattle.frames.proofs.pdo.Goals as goal
 
 pub shown_bits-first-requires : goal.shown_bits-first-requires
@@ -9,14 +8,3 @@ shown_bits-first-requires c = (setting_in c.args.s c.requires.0 Resolution, c.re
 
 pub shown_bits-second-requires : goal.shown_bits-second-requires
 shown_bits-second-requires c = (setting_in c.args.s c.requires.0 Resolution, c.requires.1.1)
-
-pub returns : goal.returns
-unfolding pdo_frame
-returns c =
-    simp (
-      c.pdo_at.ensures,
-      c.to_le_bytes.ensures,
-      c.to_le_bytes-2.ensures,
-      c.shown_bits-first.ensures,
-      c.shown_bits-second.ensures,
-    )
