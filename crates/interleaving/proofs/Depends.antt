@@ -1,6 +1,6 @@
 -- A request's outcome depends on what the request reads and writes, on its channel's transfer and on what no request changes, alone.
 use lib.IntN.{ℤ}
-use Rattle.std.specs.Prelude.{Result, Ok, Err}
+use Rattle.std.specs.Prelude.{Result, Ok, Err, Option}
 use mathlib.Core.Path.{◌≡◌, refl, ap, sym, ◌∙◌, subst, subst₂}
 use mathlib.Core.Bool.{Bool, false, cond, ◌||◌}
 use mathlib.Core.List.{List}
@@ -92,7 +92,7 @@ module _ (c : Channel) (u w : State) where
       let x = h (running s) (own Read (setting_row s).index (setting_row s).subindex tt) in
       λ i. Ok (Number (setting_row s).size (setting_value s (t i).node (x i)))
 
-  module _ (given : ℕ) where
+  module _ (given : Option ℕ) where
     -- "6012 also reads 6000, 6011, 6014"
     abbrev PresetUses : Axis → Setting → Type 0
     PresetUses a s = Uses (Write given) (Of (Preset a)) s
@@ -221,7 +221,7 @@ stores-alike c request u w h =
     })
     ∙ ap (λ (o : Outcome). beside o.change w) (outcome-alike c request u w h)
   where
-    its : (given : ℕ) (o : Object) → command request ≡ Write given → object_at (index_of request) (subindex_of request) ≡ Ok o → For c u w (Write given) o
+    its : (given : Option ℕ) (o : Object) → command request ≡ Write given → object_at (index_of request) (subindex_of request) ≡ Ok o → For c u w (Write given) o
     its given o p q =
         let n = subst (λ (f : Result Object Abort). Names f (index_of request) (subindex_of request)) q (named (index_of request) (subindex_of request)) in
         subst₂ (λ (i s : ℕ). Alike c (Write given) i s u w) n.0 n.1 (subst (λ (k : Command). Alike c k (index_of request) (subindex_of request) u w) p h)

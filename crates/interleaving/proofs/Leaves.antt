@@ -1,5 +1,5 @@
 -- A request leaves every cell that it does not write, its channel's transfer and the counts apart.
-use Rattle.std.specs.Prelude.{Result, Ok, Err}
+use Rattle.std.specs.Prelude.{Result, Ok, Err, Option}
 use mathlib.Core.Path.{◌≡◌, refl, subst}
 use mathlib.Core.Bool.{Bool, true, false, cond, ◌&&◌, ◌||◌}
 use mathlib.Core.List.{List}
@@ -51,7 +51,7 @@ pub record Leaves (k : Command) (i s : ℕ) (e : Change) : Type 0 where
 keep-leaves : (k : Command) (i s : ℕ) → Leaves k i s Keep
 keep-leaves k i s = record { running = λ t x h. refl; errors = λ x h. refl; kept = λ t x h. refl }
 
-module _ (given : ℕ) where
+module _ (given : Option ℕ) where
   abbrev Written : Object → Change → Type 0
   Written o e = Leaves (Write given) (row_of o).index (row_of o).subindex e
 
@@ -119,7 +119,7 @@ module _ (c : Channel) (request : List ℕ) (u : State) where
   abbrev Left : Change → Type 0
   Left e = Leaves (command request) (index_of request) (subindex_of request) e
 
-  wrote-leaves : (given : ℕ) (o : Object) (v : ℕ) → command request ≡ Write given → object_at (index_of request) (subindex_of request) ≡ Ok o → Left (change c o v u)
+  wrote-leaves : (given : Option ℕ) (o : Object) (v : ℕ) → command request ≡ Write given → object_at (index_of request) (subindex_of request) ≡ Ok o → Left (change c o v u)
   wrote-leaves given o v p q =
       let n = subst (λ (f : Result Object Abort). Names f (index_of request) (subindex_of request)) q (named (index_of request) (subindex_of request)) in
       rw (p, n.0, n.1) (change-leaves given c v u o)

@@ -1,5 +1,5 @@
 -- The table row by row: for every object, what a read of it reads, and what a write of it reads and writes.
-use Rattle.std.specs.Prelude.{◌≡◌, List, [], ◌∷◌, map, ℕ, Ok}
+use Rattle.std.specs.Prelude.{◌≡◌, List, [], ◌∷◌, map, ℕ, Ok, Option}
 use Rattle.rules.specs.declared.objects.Object.{Object}
 use Rattle.rules.specs.declared.requests.Command.{Command}
 use Rattle.rules.specs.declared.requests.Command.TheVariants.{Write, Read, Segment, End, Unknown}
@@ -39,16 +39,16 @@ rows =
     plain_row 0x1800 0 ∷ plain_row 0x1A00 0 ∷ plain_row 0x1A00 1 ∷ plain_row 0x1A00 2 ∷ plain_row 0x2101 0 ∷ []
 
 -- what `ReadsWrites` says of an index and a subindex, whatever length a write gives
-abbrev pub row_by : ℕ → ℕ → ℕ → TableRow
+abbrev pub row_by : Option ℕ → ℕ → ℕ → TableRow
 row_by given i s = row i s (reads_of Read i s) (reads_of (Write given) i s) (writes_of (Write given) i s)
 
 -- every object has its row, and no more
 abbrev pub RowByRow : Type 0
-RowByRow = (given : ℕ) → map (λ o. row_by given (row_of o).index (row_of o).subindex) objects ≡ rows
+RowByRow = (given : Option ℕ) → map (λ o. row_by given (row_of o).index (row_of o).subindex) objects ≡ rows
 
 -- what is no object has nothing but its own numbers
 abbrev pub NoFurtherRow : Type 0
-NoFurtherRow = (given i s : ℕ) → ((o : Object) → object_at i s ≡ Ok o → ⊥) → row_by given i s ≡ plain_row i s
+NoFurtherRow = (given : Option ℕ) (i s : ℕ) → ((o : Object) → object_at i s ≡ Ok o → ⊥) → row_by given i s ≡ plain_row i s
 
 -- a read writes nothing, and "Others: nothing": the next segment, 80h and every other first byte
 abbrev pub WritesNothing : Command → Type 0

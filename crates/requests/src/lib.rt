@@ -25,11 +25,11 @@ pub fn command(first: u8) -> Command
     ensures { result ≡ command_of first }
 {
     match first {
-        0x22 => Command::Write(0),
-        0x23 => Command::Write(4),
-        0x27 => Command::Write(3),
-        0x2B => Command::Write(2),
-        0x2F => Command::Write(1),
+        0x22 => Command::Write(None),
+        0x23 => Command::Write(Some(4)),
+        0x27 => Command::Write(Some(3)),
+        0x2B => Command::Write(Some(2)),
+        0x2F => Command::Write(Some(1)),
         0x40 => Command::Read,
         0x60 => Command::Segment(0),
         0x70 => Command::Segment(1),

@@ -2,7 +2,7 @@
 use mathlib.Core.Path.{◌≡◌, refl}
 use mathlib.Core.List.{List}
 use Prim.Native.Nat.{ℕ}
-use Rattle.std.specs.Prelude.{Result, Ok, Err}
+use Rattle.std.specs.Prelude.{Result, Ok, Err, Option}
 use lib.Dec.{eqb}
 use Rattle.laws.proofs.Bools.{cond_both}
 use Rattle.rules.specs.declared.aborts.Abort.{Abort}
@@ -29,7 +29,7 @@ module _ (c : Channel) (request : List ℕ) (u : State) (P : Outcome → Type 0)
   -- an abort, an accepted write, a read, the string's, a segment, and no reply
   pub record Each : Type 0 where
     pub aborted : (why : Abort) → P (refuse request why)
-    pub wrote : (given : ℕ) (o : Object) → command request ≡ Write given → object_at (index_of request) (subindex_of request) ≡ Ok o
+    pub wrote : (given : Option ℕ) (o : Object) → command request ≡ Write given → object_at (index_of request) (subindex_of request) ≡ Ok o
         → write_check given o (value_for o request) u ≡ Ok tt → P (replied (written request) absent (change c o (value_for o request) u))
     pub number : (size n : ℕ) → P (replied (read_number size request n) absent Keep)
     pub text : P (replied (read_text request) at_start Keep)

@@ -7,7 +7,7 @@ use native.Mathlib.Nat.{mod-lt, one-le-pow}
 use native.Mathlib.Omega.{arith}
 use lib.Dec.{eqb, ltb, leb}
 use lib.IntN.{ℤ}
-use Rattle.std.specs.Prelude.{Result, Ok, Err}
+use Rattle.std.specs.Prelude.{Result, Ok, Err, Option}
 use borrow.Author.Tests.{eqb-true, ltb-true}
 use Rattle.laws.proofs.Bools.{cond_both, cond-each}
 use Rattle.rules.specs.declared.journal.Origin.{Origin}
@@ -147,7 +147,7 @@ module _ (u : State) where
   changes c (Of s) v h p e = sets c s v h p
 
   -- an accepted write, whose checks all passed
-  wrote : (c : Channel) (request : List ℕ) (given : ℕ) (o : Object) → write_check given o (value_for o request) u ≡ Ok tt → Allowed u (change c o (value_for o request) u)
+  wrote : (c : Channel) (request : List ℕ) (given : Option ℕ) (o : Object) → write_check given o (value_for o request) u ≡ Ok tt → Allowed u (change c o (value_for o request) u)
   wrote c request given o e =
       let v = value_for o request in
       let state = (write_of o v u).state in

@@ -1,5 +1,5 @@
 -- Service channels: what a request of eight bytes asks.
-use Rattle.std.specs.Prelude.{cond, List, ℕ, ◌%◌, ◌^◌, eqb, get_or}
+use Rattle.std.specs.Prelude.{cond, List, ℕ, ◌%◌, ◌^◌, eqb, get_or, Some, None}
 use Rattle.rules.specs.declared.objects.Object.{Object}
 use Rattle.rules.specs.declared.requests.Command.{Command}
 use Rattle.rules.specs.declared.requests.Command.TheVariants.{Write, Read, Segment, End, Unknown}
@@ -9,11 +9,11 @@ use Rattle.rules.specs.Objects.{row_of}
 -- "First bytes: 22h, 23h, 27h, 2Bh, 2Fh write (22h takes the object's own length); 40h read; 60h, 70h next segment; 80h ends the transfer"
 unfoldable pub command_of : ℕ → Command
 command_of first =
-    cond (eqb first 0x22) (Write 0)
-    (cond (eqb first 0x23) (Write 4)
-    (cond (eqb first 0x27) (Write 3)
-    (cond (eqb first 0x2B) (Write 2)
-    (cond (eqb first 0x2F) (Write 1)
+    cond (eqb first 0x22) (Write None)
+    (cond (eqb first 0x23) (Write (Some 4))
+    (cond (eqb first 0x27) (Write (Some 3))
+    (cond (eqb first 0x2B) (Write (Some 2))
+    (cond (eqb first 0x2F) (Write (Some 1))
     (cond (eqb first 0x40) Read
     (cond (eqb first 0x60) (Segment 0)
     (cond (eqb first 0x70) (Segment 1)

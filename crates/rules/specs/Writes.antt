@@ -1,5 +1,5 @@
 -- Service channels, writes: the checks in their order, and what an accepted write changes.
-use Rattle.std.specs.Prelude.{Bool, true, false, cond, not, ◌||◌, ℕ, ◌+◌, eqb, ltb, ℤ, Result, Ok, Err, ⊤}
+use Rattle.std.specs.Prelude.{Bool, true, false, not, ◌||◌, ℕ, ◌+◌, eqb, ltb, ℤ, Result, Ok, Err, ⊤, Option, Some, None}
 use Rattle.rules.specs.declared.aborts.Abort.{Abort}
 use Rattle.rules.specs.declared.aborts.Abort.TheVariants.{JournalFull, ReadOnly, JournalSpoiled, TooLong, TooShort, WrongValue, WrongSignature}
 use Rattle.rules.specs.declared.journal.Origin.{Origin}
@@ -36,10 +36,10 @@ abbrev pub unless : Bool → Abort → Check
 unless true why = Ok tt
 unless false why = Err why
 
--- "length, too long 06070012h, too short 06070013h"; 0 is the object's own
-unfoldable pub length_check : ℕ → ℕ → Check
-length_check given own =
-    cond (eqb given 0) (Ok tt) (unless (not (ltb own given)) TooLong then unless (not (ltb given own)) TooShort)
+-- "length, too long 06070012h, too short 06070013h"; none is the object's own
+unfoldable pub length_check : Option ℕ → ℕ → Check
+length_check None own = Ok tt
+length_check (Some given) own = unless (not (ltb own given)) TooLong then unless (not (ltb given own)) TooShort
 
 -- "40000180h+node, or C0000180h+node (off)"
 abbrev pub on_value : PdoNumber → ℕ → ℕ
@@ -120,7 +120,7 @@ write_of (Angle a) v u = read_only_write
 write_of (Of s) v u = setting_write s v u
 
 -- "access, writing read-only (06010002h); length …; value …; device state"
-abbrev pub write_check : ℕ → Object → ℕ → State → Check
+abbrev pub write_check : Option ℕ → Object → ℕ → State → Check
 write_check given o v u =
     unless (row_of o).writable ReadOnly then length_check given (row_of o).size then (write_of o v u).value then (write_of o v u).state
 

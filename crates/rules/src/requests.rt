@@ -10,10 +10,10 @@ pub enum Caller {
     Master,
 }
 
-// The first byte of a service request. A write names its length in bytes, 0 for the object's own; a segment its toggle.
+// The first byte of a service request. A write names its length in bytes, or none for the object's own; a segment its toggle.
 #[derive(Clone, Copy)]
 pub enum Command {
-    Write(u8),
+    Write(Option<u8>),
     Read,
     Segment(u8),
     End,

@@ -85,7 +85,7 @@ fn read(request: [u8; 8], v: View) -> Result<Outcome, Abort>
 }
 
 // The value is taken in the object's own length; the checks judge the length that is given.
-fn write(channel: Channel, request: [u8; 8], given: u8, v: View) -> Result<Outcome, Abort>
+fn write(channel: Channel, request: [u8; 8], given: Option<u8>, v: View) -> Result<Outcome, Abort>
     requires { Sound v }
     ensures { told request result ≡ on_command channel request (Write given) (object_at (Requests.index_of request) (Requests.subindex_of request)) (viewed v) }
 {
