@@ -1,36 +1,41 @@
 -- A line of more than 29 bytes behind its letter and blank brings no frame.
 use mathlib.Core.Path.{◌≡◌, refl}
-use mathlib.Core.Bool.{Bool, true, false}
-use mathlib.Core.List.{List, [], ◌∷◌}
-use Prim.Native.Nat.{ℕ, suc, ◌+◌, ◌/◌, ◌≤◌, ◌<◌}
+use mathlib.Core.Bool.{Bool, true, false, cond}
+use mathlib.Core.List.{List}
+use Prim.Native.Nat.{ℕ, ◌+◌, ◌/◌, ◌≤◌, ◌<◌}
 use native.Mathlib.Omega.{arith}
-use borrow.Author.Tests.{leb-true, leb-false, lt-leb, ne_eqb}
-use lib.Dec.{eqb, leb}
+use borrow.Author.Tests.{leb-true, leb-false, lt-leb, ltb-true}
+use lib.Dec.{eqb, leb, ltb}
 use lib.ListN.{length, drop, length-drop}
 use lib.Seq.{length-take-le}
-use Rattle.laws.proofs.Bools.{cond_both}
+use Rattle.std.specs.List.{position_or_len}
+use Rattle.std.specs.Prelude.{None, Some}
 use Rattle.numerals.proofs.Digits.{and-false, over}
 use Rattle.plain_lines.proofs.Long.{same}
-use Rattle.plain_lines.specs.declared.Line.TheVariants.{Malformed}
-use Rattle.frame_lines.specs.Reading.{frame_read, frame_of, identifier_in, joined, plain, until_blank}
-
-until_within : (s : List ℕ) → until_blank s ≤ length s
-unfolding until_blank
-until_within [] = omega arith
-until_within (b ∷ s) =
-    let later : suc (until_blank s) ≤ suc (length s) = omega (arith, until_within s) in
-    cond_both (λ (n : ℕ). n ≤ suc (length s)) (eqb b 0x20) (omega arith) later
+use Rattle.frame_lines.specs.Reading.{fields_read, frame_read, identifier_in, joined}
 
 module _ (s : List ℕ) (long : 29 < length s) where
+  alone : identifier_in s ≡ None
+  unfolding identifier_in
+  alone = rw (lt-leb (length s) 8 (omega arith))
+
   -- the identifier is too long, or what stands behind it is
-  pub frame-long : frame_read s ≡ plain Malformed
-  unfolding frame_read frame_of identifier_in joined
-  frame-long = which (leb (until_blank s) 8) refl where
-    which : (t : Bool) → leb (until_blank s) 8 ≡ t → frame_read s ≡ plain Malformed
+  behind : (n : ℕ) → n < length s → fields_read s (Some n) ≡ None
+  unfolding identifier_in joined
+  behind n within = which (leb n 8) refl where
+    which : (t : Bool) → leb n 8 ≡ t → fields_read s (Some n) ≡ None
     which true e =
-        let few : until_blank s ≤ 8 = leb-true (until_blank s) 8 e in
-        let many : 9 < length (drop (until_blank s + 1) s) / 2 = simp length-drop (omega arith) in
-        rw (ne_eqb (until_blank s) (length s) (λ q. omega arith), over 1 9 (length (drop (until_blank s + 1) s) / 2) many, and-false)
+        let few : n ≤ 8 = leb-true n 8 e in
+        let many : 9 < length (drop (n + 1) s) / 2 = simp length-drop (omega arith) in
+        rw (over 1 9 (length (drop (n + 1) s) / 2) many, and-false)
     which false e =
-        let many : 8 < until_blank s = leb-false (until_blank s) 8 e in
-        rw (length-take-le (until_blank s) s (until_within s), lt-leb (until_blank s) 8 many, same)
+        let many : 8 < n = leb-false n 8 e in
+        rw (length-take-le n s (omega arith), lt-leb n 8 many, same)
+
+  fields : (n : ℕ) (t : Bool) → ltb n (length s) ≡ t → fields_read s (cond t (Some n) None) ≡ None
+  fields n true e = behind n (ltb-true n (length s) e)
+  fields n false e = rw alone
+
+  pub frame-long : frame_read s ≡ None
+  unfolding frame_read
+  frame-long = fields (position_or_len (λ b. eqb b 0x20) s) _ refl

@@ -1,15 +1,14 @@
 // What a line says that brings a frame: F.
 #![tactic(auto)]
 
-ghost use Rattle.std.specs.Prelude.{◌≡◌, ◌≤◌, length};
+ghost use Rattle.std.specs.Prelude.{◌≡◌, Some};
 ghost use Rattle.frame_lines.specs.Reading;
-ghost use Rattle.frame_lines.specs.Reading.{identifier_in, until_blank};
+ghost use Rattle.frame_lines.specs.Reading.{first_blank, identifier_in, plain};
 
-use numerals::Number;
 use plain_lines::Line;
 use rules::events::{Event, FrameHead};
 
-// The bytes of a frame stand beside its event: the first eight, 0 past the end, and how many there are.
+// The bytes of a frame stand beside its event, as the device takes them: the first eight, 0 past the end, and how many there are.
 #[derive(Clone, Copy)]
 pub struct Parsed {
     pub line: Line,
@@ -17,38 +16,33 @@ pub struct Parsed {
     pub length: u8,
 }
 
-pub fn plain(line: Line) -> Parsed
-    ensures { result ≡ Reading.plain line }
-{
-    Parsed {
-        line,
-        bytes: [0, 0, 0, 0, 0, 0, 0, 0],
-        length: 0,
+impl From<Line> for Parsed {
+    ghost from_gives = { λ line parsed. parsed ≡ plain line };
+
+    fn from(line: Line) -> Parsed {
+        Parsed {
+            line,
+            bytes: [0; 8],
+            length: 0,
+        }
     }
 }
 
-// How many bytes stand before the first blank.
-fn until_blank(s: &[u8]) -> usize
-    ensures { (result ≡ until_blank s.now) × (result ≤ length s.now) }
+// Where the first blank stands.
+fn first_blank(s: &[u8]) -> Option<usize>
+    ensures { result ≡ first_blank s.now }
 {
-    let mut i = 0;
-    while i < s.len() {
-        if s[i] == b' ' {
-            return i;
-        }
-        i += 1;
-    }
-    i
+    s.iter().position(|b| *b == b' ')
 }
 
 #[tactic(auto, unfolding(crate::specs::Reading::identifier_in))]
-fn identifier(s: &[u8]) -> Number
+fn identifier(s: &[u8]) -> Option<u32>
     ensures { result ≡ identifier_in s.now }
 {
     if s.len() <= 8 {
         return numerals::number_in(16, s);
     }
-    Number::Not
+    None
 }
 
 // Pairs of digits, one to nine.
@@ -57,15 +51,12 @@ fn joined(s: &[u8]) -> bool
     ensures { result ≡ Reading.joined s.now }
 {
     let n = s.len();
-    hex_pairs::hex(s) & (n % 2 == 0) & ((1 <= n / 2) & (n / 2 <= 9))
+    hex_pairs::hex(s) & (n % 2 == 0) & matches!(n / 2, 1..=9)
 }
 
-fn received(number: Number, bytes: [u8; 8], length: u8) -> Parsed
-    ensures { result ≡ Reading.received number bytes length }
+fn received(identifier: u32, bytes: [u8; 8], length: u8) -> Parsed
+    ensures { result ≡ Reading.received identifier bytes length }
 {
-    let Number::Of(identifier) = number else {
-        return plain(Line::Malformed);
-    };
     let head = FrameHead {
         identifier,
         remote: false,
@@ -77,21 +68,18 @@ fn received(number: Number, bytes: [u8; 8], length: u8) -> Parsed
     }
 }
 
-pub fn frame(field: &[u8]) -> Parsed
+// None where the fields are no frame's.
+#[tactic(auto, using(crate::proofs::Fields::joined_few, plain_lines::proofs::Fields::rest, hex_pairs::proofs::Pairs::bytes_count), unfolding(crate::specs::Reading::frame_read))]
+pub fn frame(field: &[u8]) -> Option<Parsed>
     ensures { result ≡ Reading.frame_read field.now }
 {
-    let n = until_blank(field);
-    let number = identifier(&field[..n]);
-    if n == field.len() {
-        return received(number, [0, 0, 0, 0, 0, 0, 0, 0], 0);
-    }
+    let Some(n) = first_blank(field) else {
+        return Some(received(identifier(field)?, [0; 8], 0));
+    };
     let pairs = &field[n + 1..];
-    if joined(pairs) {
-        return received(
-            number,
-            hex_pairs::first_eight(pairs),
-            (pairs.len() / 2) as u8,
-        );
+    if !joined(pairs) {
+        return None;
     }
-    plain(Line::Malformed)
+    let bytes = hex_pairs::first_eight(pairs);
+    Some(received(identifier(&field[..n])?, bytes, (pairs.len() / 2) as u8))
 }

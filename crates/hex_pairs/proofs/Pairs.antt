@@ -4,10 +4,10 @@ use mathlib.Core.List.{List, [], ◌∷◌}
 use Prim.Native.Nat.{ℕ, zero, suc, ◌+◌, ◌*◌, ◌/◌, ◌≤◌, ◌<◌}
 use native.Mathlib.Omega.{arith}
 use lib.ListN.{length, get_or}
-use Rattle.numerals.specs.Numerals.{digit_of}
-use Rattle.hex_pairs.specs.Pairs.{bytes_in}
+use Rattle.std.specs.Prelude.{unwrap_or}
+use Rattle.hex_pairs.specs.Pairs.{byte_of, bytes_in}
 
-pub byte_in : (s : List ℕ) (i : ℕ) → 2 * i + 1 < length s → get_or (bytes_in s) i 0 ≡ digit_of (get_or s (2 * i) 0) * 16 + digit_of (get_or s (2 * i + 1) 0)
+pub byte_in : (s : List ℕ) (i : ℕ) → 2 * i + 1 < length s → get_or (bytes_in s) i 0 ≡ unwrap_or (byte_of (get_or s (2 * i) 0) (get_or s (2 * i + 1) 0)) 0
 unfolding bytes_in
 byte_in [] i h = absurd (omega arith)
 byte_in (a ∷ []) i h = absurd (omega arith)

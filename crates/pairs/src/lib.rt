@@ -4,37 +4,28 @@
 ghost use Rattle.std.specs.Prelude.{◌≡◌};
 ghost use Rattle.pairs.specs.Pairs.{joined, pair_in};
 
-use numerals::Number;
-
 #[derive(Clone, Copy)]
-pub enum Pair {
-    Of(u16, u8),
-    Not,
+pub struct Pair {
+    pub index: u16,
+    pub subindex: u8,
 }
 
 const COLON: u8 = b':';
 
-fn joined(first: Number, second: Number) -> Pair
+fn joined(first: Option<u32>, second: Option<u32>) -> Option<Pair>
     ensures { result ≡ joined first second }
 {
-    let Number::Of(index) = first else {
-        return Pair::Not;
-    };
-    let Number::Of(subindex) = second else {
-        return Pair::Not;
-    };
-    if (index <= 0xFFFF) & (subindex <= 0xFF) {
-        return Pair::Of(index as u16, subindex as u8);
-    }
-    Pair::Not
+    let index = u16::try_from(first?).ok()?;
+    let subindex = u8::try_from(second?).ok()?;
+    Some(Pair { index, subindex })
 }
 
 #[tactic(auto, unfolding(crate::specs::Pairs::pair_in))]
-pub fn pair_in(word: &[u8]) -> Pair
+pub fn pair_in(word: &[u8]) -> Option<Pair>
     ensures { result ≡ pair_in word.now }
 {
     if word.len() < 5 {
-        return Pair::Not;
+        return None;
     }
     if word[4] == COLON {
         return joined(
@@ -42,5 +33,5 @@ pub fn pair_in(word: &[u8]) -> Pair
             numerals::decimal_in(&word[5..]),
         );
     }
-    Pair::Not
+    None
 }

@@ -2,10 +2,10 @@
 #![tactic(auto)]
 
 ghost use Rattle.std.specs.Prelude.{◌≡◌};
+ghost use Rattle.numerals.specs.Numerals.{decimal_in};
 ghost use Rattle.plain_lines.specs.Reading;
 ghost use Rattle.plain_lines.specs.Reading.{line_of, tick_of};
 
-use numerals::Number;
 use rules::events::Event;
 use rules::objects::Axis;
 
@@ -13,77 +13,61 @@ use rules::objects::Axis;
 pub enum Line {
     PowerOn(u8),
     Happens(Event),
-    Malformed,
 }
 
-// How far a negative number of 32 bits goes; a positive one goes one less.
-const FARTHEST: u32 = 0x80000000;
-
-#[tactic(auto, unfolding(crate::specs::Reading::power_on_line))]
-fn power_on(field: &[u8]) -> Line
+fn power_on(field: &[u8]) -> Option<Line>
     ensures { result ≡ Reading.power_on_line field.now }
 {
-    if hex_pairs::hex(field) & (field.len() == 2) {
-        return Line::PowerOn(hex_pairs::pair_at(field, 0));
-    }
-    Line::Malformed
+    let [high, low] = field else {
+        return None;
+    };
+    Some(Line::PowerOn(hex_pairs::byte(*high, *low)?))
 }
 
-fn tick(number: Number) -> Line
-    ensures { result ≡ tick_of number }
+fn tick(field: &[u8]) -> Option<Line>
+    ensures { result ≡ tick_of (decimal_in field.now) }
 {
-    let Number::Of(n) = number else {
-        return Line::Malformed;
-    };
-    if n <= 65535 {
-        return Line::Happens(Event::Tick(n as u16));
-    }
-    Line::Malformed
+    let time = u16::try_from(numerals::decimal_in(field)?).ok()?;
+    Some(Line::Happens(Event::Tick(time)))
 }
 
-fn positive(axis: Axis, number: Number) -> Line
-    ensures { result ≡ Reading.positive axis number }
+// No zero is negative.
+fn negative(digits: &[u8]) -> Option<i32>
+    ensures { result ≡ Reading.negative (decimal_in digits.now) }
 {
-    let Number::Of(n) = number else {
-        return Line::Malformed;
-    };
-    if n < FARTHEST {
-        return Line::Happens(Event::Measured(axis, n as i32));
+    match numerals::decimal_in(digits)? {
+        0 => None,
+        n => i32::try_from(-i64::from(n)).ok(),
     }
-    Line::Malformed
 }
 
-fn negative(axis: Axis, number: Number) -> Line
-    ensures { result ≡ Reading.negative axis number }
+fn positive(digits: &[u8]) -> Option<i32>
+    ensures { result ≡ Reading.positive (decimal_in digits.now) }
 {
-    let Number::Of(n) = number else {
-        return Line::Malformed;
-    };
-    if (1 <= n) & (n <= FARTHEST) {
-        return Line::Happens(Event::Measured(axis, -1 - ((n - 1) as i32)));
-    }
-    Line::Malformed
+    i32::try_from(numerals::decimal_in(digits)?).ok()
 }
 
 #[tactic(auto, unfolding(crate::specs::Reading::measured_line))]
-fn measured(axis: Axis, field: &[u8]) -> Line
+fn measured(axis: Axis, field: &[u8]) -> Option<Line>
     ensures { result ≡ Reading.measured_line axis field.now }
 {
-    if numerals::byte_at(field, 0) == b'-' {
-        return negative(axis, numerals::decimal_in(&field[1..]));
-    }
-    positive(axis, numerals::decimal_in(field))
+    let reading = match field {
+        [b'-', digits @ ..] => negative(digits)?,
+        _ => positive(field)?,
+    };
+    Some(Line::Happens(Event::Measured(axis, reading)))
 }
 
+// None where the fields are not of the letter's form.
 #[tactic(auto, unfolding(crate::specs::Reading::line_of))]
-pub fn line_of(letter: u8, field: &[u8]) -> Line
+pub fn line_of(letter: u8, field: &[u8]) -> Option<Line>
     ensures { result ≡ line_of letter field.now }
 {
     match letter {
         b'P' => power_on(field),
-        b'T' => tick(numerals::decimal_in(field)),
+        b'T' => tick(field),
         b'X' => measured(Axis::X, field),
         b'Y' => measured(Axis::Y, field),
-        _ => Line::Malformed,
+        _ => None,
     }
 }

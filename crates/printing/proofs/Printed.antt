@@ -1,32 +1,16 @@
--- Laws of what is printed: bytes are printed one by one, and a frame has eight at most.
-use mathlib.Core.Path.{◌≡◌, refl}
-use mathlib.Core.Bool.{Bool, true, false}
-use mathlib.Core.List.{List, [], ◌∷◌, ◌++◌}
-use Prim.Native.Nat.{ℕ, ◌+◌, ◌<◌, min}
-use native.Mathlib.Numerals.{add-one}
-use native.Mathlib.Omega.{arith}
-use borrow.Author.Tests.{leb-true, leb-false}
-use lib.Dec.{leb}
-use lib.ListN.{length, get_or, take}
-use lib.Seq.{take-suc, take_all}
-use Rattle.texts.specs.declared.Text.{Text}
-use Rattle.printing.specs.Printing.{pair, pairs}
-use Rattle.texts.specs.Texts.{longer_by}
-use Rattle.texts.proofs.Longer.{longer-append}
+-- Laws of what is printed: hex in capitals.
+use mathlib.Core.Path.{◌≡◌, ap, ◌∙◌}
+use mathlib.Core.Bool.{true}
+use mathlib.Core.List.{[], ◌∷◌}
+use Prim.Native.Nat.{ℕ, ◌-◌, ◌<◌, ◌^◌}
+use Rattle.std.proofs.lemmas.Fmt.{hex_byte, hex_one_digit}
+use Rattle.std.specs.Fmt.{digits, digits_output, format_spec, styled_digits_output}
+use Rattle.std.specs.Prelude.{Some}
+use Rattle.printing.specs.Printing.{capital, pair}
 
-pairs-more : (l : List ℕ) (b : ℕ) → pairs (l ++ b ∷ []) ≡ pairs l ++ pair b
-unfolding pairs
-pairs-more [] b = refl
-pairs-more (a ∷ l) b = rw (pairs-more l b)
+-- what `{:X}` writes of a digit, and `{:02X}` of a byte
+pub one_capital : (d : _) (n : ℕ) → n < 16 → digits_output d ≡ Some (digits 16 true n) → digits_output d ≡ Some (capital n ∷ [])
+one_capital d n h e = e ∙ ap Some (hex_one_digit true n h)
 
--- one byte more
-pub byte_more : (l : List ℕ) (i : ℕ) (t : Text) → i < length l → longer_by (pair (get_or l i 0)) (longer_by (pairs (take i l)) t) ≡ longer_by (pairs (take (i + 1) l)) t
-byte_more l i t h = rw (add-one, take-suc l i 0 h, pairs-more, longer-append)
-
--- a length above 8 names the eight bytes
-pub eight : (n : ℕ) (l : List ℕ) (t : Bool) → leb n 8 ≡ t → length l ≡ 8 → take (min n 8) l ≡ take n l
-eight n l true e h = let s : min n 8 ≡ n = omega (arith, leb-true n 8 e) in rw s
-eight n l false e h =
-    let b : 8 < n = leb-false n 8 e in
-    let s : min n 8 ≡ 8 = omega arith in
-    rw (s, take_all 8 l (omega arith), take_all n l (omega arith))
+pub two_capitals : (d : _) (s : _) (b : ℕ) → b < 256 → digits_output d ≡ Some (digits 16 true b) → s ≡ format_spec 32 0 4 2 (2 ^ 64 - 1) → styled_digits_output d s ≡ Some (pair b)
+two_capitals d s b h e f = rw (f, e) (ap Some (hex_byte true b h))

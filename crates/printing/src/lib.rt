@@ -1,75 +1,54 @@
 // What the trace program prints: a frame or a refusal as one line.
 #![tactic(auto)]
 
-ghost use Rattle.std.specs.Prelude.{◌≡◌, ◌<◌, min};
-ghost use Rattle.printing.specs.Printing.{capital, decimal, frame_line, pair, refusal_line};
-ghost use Rattle.texts.specs.Texts.{longer_by, text_of};
+ghost use Rattle.std.specs.Prelude.{Some};
+ghost use Rattle.printing.specs.Printing.{frame_line, pairs, refusal_line};
 
 use rules::events::Frame;
-use texts::Text;
+use std::fmt;
 
-const BLANK: u8 = b' ';
+// Bytes as joined pairs.
+#[derive(Clone, Copy)]
+struct Pairs<'a>(&'a [u8]);
 
-const LINE_FEED: u8 = b'\n';
+impl fmt::Display for Pairs<'_> {
+    ghost output = { λ bytes. Some (pairs bytes.0.now) };
 
-const LETTER_R: u8 = b'R';
-
-#[tactic(auto, unfolding(crate::specs::Printing::capital))]
-fn digit(n: u8) -> u8
-    requires { n < 16 }
-    ensures { result ≡ capital n }
-{
-    if n < 10 { b'0' + n } else { b'A' + (n - 10) }
-}
-
-fn with_pair(text: Text, b: u8) -> Text
-    ensures { result ≡ longer_by (pair b) text }
-{
-    text.with(digit(b / 16)).with(digit(b % 16))
-}
-
-fn at_most_8(length: u16) -> usize
-    ensures { result ≡ min length 8 }
-{
-    if length < 8 { length as usize } else { 8 }
+    fn fmt<W: fmt::Write>(&self, f: &mut fmt::Formatter<W>) -> fmt::Result {
+        for &b in self.0 {
+            write!(f, "{b:02X}")?;
+        }
+        Ok(())
+    }
 }
 
 // A sent frame's identifier has three digits; of a larger one the last three are printed.
-pub fn frame_text(f: Frame) -> Text
-    ensures { result ≡ text_of (frame_line f) }
-{
-    let identifier = f.identifier;
-    let bytes = f.bytes;
-    let n = at_most_8(f.length);
-    let first = digit((identifier / 256 % 16) as u8);
-    let rest = (identifier % 256) as u8;
-    let mut text = with_pair(Text::empty().with(first), rest).with(BLANK);
-    let mut i = 0;
-    while i < n {
-        text = with_pair(text, bytes[i]);
-        i += 1;
+pub struct FrameLine(pub Frame);
+
+impl fmt::Display for FrameLine {
+    ghost output = { λ line. Some (frame_line line.0) };
+
+    fn fmt<W: fmt::Write>(&self, f: &mut fmt::Formatter<W>) -> fmt::Result {
+        let identifier = self.0.identifier;
+        let bytes = self.0.bytes.as_slice();
+        let n = usize::from(self.0.length).min(bytes.len());
+        let sent = Pairs(&bytes[..n]);
+        writeln!(
+            f,
+            "{:X}{:02X} {sent}",
+            identifier / 256 % 16,
+            identifier % 256
+        )
     }
-    text.with(LINE_FEED)
 }
 
-#[tactic(auto, unfolding(crate::specs::Printing::decimal))]
-fn with_number(text: Text, n: u8) -> Text
-    ensures { result ≡ longer_by (decimal n) text }
-{
-    if n < 10 {
-        return text.with(digit(n));
-    }
-    if n < 100 {
-        return text.with(digit(n / 10)).with(digit(n % 10));
-    }
-    text.with(digit(n / 100))
-        .with(digit(n / 10 % 10))
-        .with(digit(n % 10))
-}
+// A refusal by its number.
+pub struct RefusalLine(pub u16);
 
-pub fn refusal_text(n: u8) -> Text
-    ensures { result ≡ text_of (refusal_line n) }
-{
-    let text = Text::empty().with(LETTER_R).with(BLANK);
-    with_number(text, n).with(LINE_FEED)
+impl fmt::Display for RefusalLine {
+    ghost output = { λ line. Some (refusal_line line.0) };
+
+    fn fmt<W: fmt::Write>(&self, f: &mut fmt::Formatter<W>) -> fmt::Result {
+        writeln!(f, "R {}", self.0)
+    }
 }

@@ -1,45 +1,64 @@
 // A line of the trace program held in constant memory.
 #![tactic(auto)]
 
-ghost use Rattle.std.specs.Prelude.{◌≡◌, []};
+ghost use Rattle.std.specs.Prelude.{◌≡◌, ◌↔◌, [], IsTrue, MatchOption};
 ghost use Rattle.texts.specs.Texts.{longer, text_of};
 
-// The first 32 bytes of a line, 0 past its end; the length 33 marks a longer line.
-#[derive(Clone, Copy)]
+use arrayvec::ArrayVec;
+use std::marker::Model;
+
+const MOST: usize = 32;
+
+// The bytes of a line; none where it is longer than what is held.
+#[derive(Drop)]
 pub struct Text {
-    pub bytes: [u8; 32],
-    pub length: u8,
+    held: Option<ArrayVec<u8, MOST>>,
+}
+
+impl Model for Text {
+    ghost use Rattle.std.specs.Prelude.{List, ℕ, Option, option_map};
+
+    ghost Value = { Option (List ℕ) };
+
+    ghost view = { λ t. option_map (λ v. v.items) t.held };
 }
 
 impl Text {
-    pub const MOST: u8 = 32;
-
     #[tactic(auto, unfolding(crate::specs::Texts::text_of))]
-    pub fn empty() -> Self
+    pub fn new() -> Self
         ensures { result ≡ text_of [] }
     {
         Text {
-            bytes: [0u8; 32],
-            length: 0,
+            held: Some(ArrayVec::new()),
         }
     }
 
-    pub fn with(self, b: u8) -> Self
-        ensures { result ≡ longer self b }
+    // One byte more.
+    #[tactic(auto, unfolding(crate::specs::Texts::text_of))]
+    pub fn push(&mut self, b: u8)
+        ensures { self.new ≡ longer self.old b }
     {
-        let length = self.length;
-        let mut bytes = self.bytes;
-        if length < Text::MOST {
-            let at = length as usize;
-            bytes[at] = b;
-            return Text {
-                bytes,
-                length: length + 1,
-            };
+        if let Some(held) = &mut self.held
+            && held.try_push(b).is_err()
+        {
+            self.held = None;
         }
-        Text {
-            bytes,
-            length: Text::MOST + 1,
+    }
+
+    // The whole line.
+    pub fn line(&self) -> Option<&[u8]>
+        ensures { MatchOption result (self.now ≡ None) (λ line. self.now ≡ Some line.now) }
+    {
+        match &self.held {
+            Some(held) => Some(held.as_slice()),
+            None => None,
         }
+    }
+
+    // No byte was pushed yet.
+    pub fn is_empty(&self) -> bool
+        ensures { IsTrue result ↔ (self.now ≡ Some []) }
+    {
+        matches!(self.line(), Some([]))
     }
 }

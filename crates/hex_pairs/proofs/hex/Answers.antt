@@ -1,18 +1,13 @@
--- `hex` meets its contract: a byte that is no digit decides it, and so does the end.
-use Rattle.std.proofs.Common.{◌≤◌, ◌<◌, get_or, sym, ◌∙◌, arith}
-use Rattle.numerals.specs.Numerals.{digit_of}
-use Rattle.numerals.proofs.Digits.{digits_end, digits_more, digits-not}
+-- `hex` meets its contract: the digits of base 16 are std's.
+use Rattle.std.proofs.Common.{rules}
+use Rattle.std.proofs.lemmas.Iterator.{YieldsList-from_slice}
+use Rattle.std.proofs.lemmas.Iterator.Search.{all_from_yields_List}
+use Rattle.std.specs.Char.{is_ascii_hexdigit}
+use borrow.Author.Tests.{tests}
+use Rattle.numerals.proofs.Digits.{hex_digits}
 use Rattle.hex_pairs.proofs.hex.Goals as goal
 
-pub returns-then-digit-ge16 : goal.returns-then-digit-ge16
-returns-then-digit-ge16 c =
-    let bad : 16 ≤ digit_of (get_or c.args.s.now c.loop-i.i 0) = omega arith in
-    sym (digits-not 16 c.args.s.now c.loop-i.i c.loop-i-test.true bad) ∙ c.loop-i.invariant.1
-
-pub loop-i-preserved : goal.loop-i-preserved
-loop-i-preserved c =
-    let good : digit_of (get_or c.args.s.now c.loop-i.i 0) < 16 = omega arith in
-    (omega arith, sym (digits_more 16 c.args.s.now c.loop-i.i c.loop-i-test.true good) ∙ c.loop-i.invariant.1)
-
 pub returns : goal.returns
-returns c = sym (digits_end 16 c.args.s.now c.loop-i.i (omega arith)) ∙ c.loop-i.invariant.1
+returns c =
+    rw hex_digits
+    (all_from_yields_List is_ascii_hexdigit _ _ _ c.all.ensures.ran (YieldsList-from_slice c.args.s.now cc) (λ x b q k. search (rules, tests)))
