@@ -2,126 +2,100 @@
 #![tactic(auto)]
 
 use answers::Answer;
-use device::Device;
+use device::{Device, Stepped};
 use plain_lines::Line;
+use printing::{FrameLine, RefusalLine};
 use rules::parts::Identity;
 use std::io;
 use std::io::{Input, Read};
 use texts::Text;
 
-const LINE_FEED: u8 = 10;
+const LINE_FEED: u8 = b'\n';
 
-// The sensor, and the line that is being read.
-#[derive(Clone, Copy)]
+// The sensor and its journal, and the line that is being read.
+#[derive(Drop)]
 struct Bench {
     device: Device,
+    journal: [[u8; 512]; 2],
     line: Text,
 }
 
-fn print(rt: &impl Print, text: Text) -> io::Result<()> {
-    let bytes = text.bytes;
-    let end = text.length as usize;
-    if end <= 32 {
-        rt.write_all(&bytes[0..end])?;
-    }
-    Ok(())
-}
-
-// Every refusal is a number of one digit.
 fn print_refusal(rt: &impl Print, refusal: u16) -> io::Result<()> {
     if refusal != 0 {
-        print(rt, printing::refusal_text((refusal % 256) as u8))?;
+        rt.print(RefusalLine(refusal))?;
     }
     Ok(())
 }
 
-fn print_answer(rt: &impl Print, answer: Answer) -> io::Result<()> {
+fn print_answer(rt: &impl Print, answer: &Answer) -> io::Result<()> {
     print_refusal(rt, answer.refusal)?;
-    let frames = answer.frames;
-    for i in 0..answers::MOST_FRAMES {
-        if i < (answer.count as usize) {
-            print(rt, printing::frame_text(frames[i]))?;
-        }
+    for frame in answer.frames.iter().take(usize::from(answer.count)) {
+        rt.print(FrameLine(*frame))?;
     }
     Ok(())
 }
 
-// Two fresh blank blocks.
-fn make_blank(journal: &mut [u8]) {
-    let image = image::blank();
-    if 1024 <= journal.len() {
-        journal[0..512].copy_from_slice(&image);
-        journal[512..1024].copy_from_slice(&image);
-    }
-}
-
-fn power_on(rt: &impl Print, node: u8, journal: &mut [u8]) -> io::Result<Device> {
-    make_blank(journal);
-    let identity = Identity {
-        vendor: 0,
-        product: 0,
-        revision: 0,
-        serial: 0,
-    };
-    let stepped = power_on::power_on(node as u32, identity, journal);
-    let answer = stepped.answer;
-    print_answer(rt, answer)?;
-    Ok(stepped.device)
-}
-
-// One whole line.
-fn run(rt: &impl Print, device: Device, journal: &mut [u8], text: Text) -> io::Result<Device> {
-    let parsed = lines::read(text);
-    let bytes = parsed.bytes;
-    let line = parsed.line;
-    match line {
-        Line::PowerOn(node) => power_on(rt, node, journal),
-        Line::Happens(event) => {
-            let stepped = device.event(journal, event, bytes, parsed.length);
-            let answer = stepped.answer;
-            print_answer(rt, answer)?;
-            Ok(stepped.device)
-        }
-        Line::Malformed => {
-            print(rt, printing::refusal_text(lines::refusal(line)))?;
-            Ok(device)
+impl Bench {
+    fn new() -> Self {
+        Bench {
+            device: power_on::zero_record(),
+            journal: [[0xFF; 512]; 2],
+            line: Text::new(),
         }
     }
-}
 
-fn take(rt: &impl Print, bench: Bench, journal: &mut [u8], b: u8) -> io::Result<Bench> {
-    let device = bench.device;
-    let line = bench.line;
-    if b == LINE_FEED {
-        let next = run(rt, device, journal, line)?;
-        return Ok(Bench {
-            device: next,
-            line: Text::empty(),
-        });
+    fn take_answer(&mut self, rt: &impl Print, stepped: &Stepped) -> io::Result<()> {
+        self.device = stepped.device;
+        print_answer(rt, &stepped.answer)
     }
-    Ok(Bench {
-        device,
-        line: line.with(b),
-    })
-}
 
-fn feed(rt: &impl Print, start: Bench, journal: &mut [u8], chunk: &[u8]) -> io::Result<Bench> {
-    let mut bench = start;
-    for b in chunk {
-        bench = take(rt, bench, journal, *b)?;
+    // On two fresh blank blocks.
+    fn power_on(&mut self, rt: &impl Print, node: u8) -> io::Result<()> {
+        self.journal = [image::blank(); 2];
+        let identity = Identity {
+            vendor: 0,
+            product: 0,
+            revision: 0,
+            serial: 0,
+        };
+        let journal = self.journal.as_flattened();
+        let stepped = power_on::power_on(u32::from(node), identity, journal);
+        self.take_answer(rt, &stepped)
     }
-    Ok(bench)
+
+    // One whole line.
+    fn run(&mut self, rt: &impl Print) -> io::Result<()> {
+        let read = lines::read(&self.line);
+        let Ok(parsed) = read else {
+            return print_refusal(rt, u16::from(lines::refusal(read)));
+        };
+        match parsed.line {
+            Line::PowerOn(node) => self.power_on(rt, node),
+            Line::Happens(event) => {
+                let journal = self.journal.as_flattened_mut();
+                let stepped = self
+                    .device
+                    .event(journal, event, parsed.bytes, parsed.length);
+                self.take_answer(rt, &stepped)
+            }
+        }
+    }
+
+    fn take(&mut self, rt: &impl Print, b: u8) -> io::Result<()> {
+        if b == LINE_FEED {
+            self.run(rt)?;
+            self.line = Text::new();
+        } else {
+            self.line.push(b);
+        }
+        Ok(())
+    }
 }
 
 // Follows standard input to its end. A proved loop has to end, and nothing says that the input does: the turns are more
 // than any run uses up.
 pub fn follow(rt: &(impl Print + Input)) -> io::Result<()> {
-    let mut space = [255u8; 1024];
-    let journal: &mut [u8] = &mut space;
-    let mut bench = Bench {
-        device: power_on::zero_record(),
-        line: Text::empty(),
-    };
+    let mut bench = Bench::new();
     let mut input = rt.reader();
     for _ in 0..u64::MAX {
         let mut chunk = [0u8; 4096];
@@ -129,10 +103,12 @@ pub fn follow(rt: &(impl Print + Input)) -> io::Result<()> {
         if n == 0 {
             break;
         }
-        bench = feed(rt, bench, journal, &chunk[..n])?;
+        for b in &chunk[..n] {
+            bench.take(rt, *b)?;
+        }
     }
-    if 0 < bench.line.length {
-        run(rt, bench.device, journal, bench.line)?;
+    if !bench.line.is_empty() {
+        bench.run(rt)?;
     }
     Ok(())
 }

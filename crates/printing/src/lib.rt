@@ -23,6 +23,7 @@ impl fmt::Display for Pairs<'_> {
 }
 
 // A sent frame's identifier has three digits; of a larger one the last three are printed.
+#[derive(Clone, Copy)]
 pub struct FrameLine(pub Frame);
 
 impl fmt::Display for FrameLine {
@@ -43,6 +44,7 @@ impl fmt::Display for FrameLine {
 }
 
 // A refusal by its number.
+#[derive(Clone, Copy)]
 pub struct RefusalLine(pub u16);
 
 impl fmt::Display for RefusalLine {
