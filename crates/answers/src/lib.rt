@@ -1,9 +1,9 @@
 // The answer to an event or a power-on: the refusal, and the frames that are sent.
 #![tactic(auto)]
 
-ghost use Rattle.std.specs.Prelude.{◌≡◌, true, cond, [], ◌∷◌, ◌++◌};
+ghost use Rattle.std.specs.Prelude.{◌≡◌, true, [], ◌∷◌, ◌++◌};
 ghost use Rattle.rules.specs.Frames;
-ghost use Rattle.rules.specs.Frames.{pdo_frame, reply_frame};
+ghost use Rattle.rules.specs.Frames.{pdo_frame, reply_frames};
 ghost use Rattle.rules.specs.Network;
 ghost use Rattle.rules.specs.Ranges.{axis_ok};
 ghost use Rattle.rules.specs.Settings.{in_table};
@@ -89,13 +89,14 @@ pub fn timed(
     Answer::one(pdo)
 }
 
-pub fn replied(replies: bool, caller: Caller, node: u8, bytes: [u8; 8]) -> Answer
-    ensures { result ≡ answering 0 (cond replies (reply_frame caller node bytes ∷ []) []) }
+// The reply to a caller, or none.
+pub fn replied(reply: Option<[u8; 8]>, caller: Caller, node: u8) -> Answer
+    ensures { result ≡ answering 0 (reply_frames caller node reply) }
 {
-    if replies {
-        return Answer::one(frames::reply(caller, node, bytes));
+    match reply {
+        Some(bytes) => Answer::one(frames::reply(caller, node, bytes)),
+        None => Answer::silent(0),
     }
-    Answer::silent(0)
 }
 
 // Boot-up, and behind it the emergency of a spoiled journal.

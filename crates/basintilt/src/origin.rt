@@ -2,7 +2,7 @@
 ghost use Rattle.std.specs.Prelude.{◌≡◌};
 ghost use Rattle.basintilt.specs.Traced.{finding_of, Traced};
 
-use rules::origins::Brought;
+use rules::origins::{Brought, NoOrigin};
 
 // Where a setting's value comes from, in numbers: a block that is none is 0 throughout.
 #[repr(C)]
@@ -16,26 +16,26 @@ pub struct Finding {
 }
 
 #[tactic(auto, unfolding(crate::specs::Traced::finding_of))]
-fn finding_of(brought: Brought) -> Finding
-    ensures { result ≡ finding_of brought }
+fn finding_of(found: Result<Brought, NoOrigin>) -> Finding
+    ensures { result ≡ finding_of found }
 {
-    match brought {
-        Brought::ByBlock(value, bringer) => Finding {
+    match found {
+        Ok(Brought::ByBlock(value, bringer)) => Finding {
             refusal: 0,
             value,
             block: bringer.number,
             channel: bringer.channel as u32,
             kind: bringer.kind as u32,
         },
-        Brought::ByFactory(value) => Finding {
+        Ok(Brought::ByFactory(value)) => Finding {
             refusal: 0,
             value,
             block: 0,
             channel: 0,
             kind: 0,
         },
-        Brought::Refused(refusal) => Finding {
-            refusal,
+        Err(why) => Finding {
+            refusal: why.into(),
             value: 0,
             block: 0,
             channel: 0,

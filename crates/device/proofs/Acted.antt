@@ -1,6 +1,6 @@
 -- An outcome acted on the record: what it does to the record has nothing to do with the journal, and none but a save, a load or a store touches that.
 use mathlib.Core.Path.{◌≡◌, refl}
-use mathlib.Core.Bool.{Bool}
+use Rattle.std.specs.Prelude.{Option}
 use mathlib.Core.List.{List}
 use Prim.Native.Nat.{ℕ}
 use Rattle.acts.specs.Asked.{step_for}
@@ -16,9 +16,9 @@ use Rattle.device.specs.Answers.{stepped_of}
 use Rattle.device.specs.Seen.{seen, alone}
 
 -- by the change
-module _ (step : ℕ) (c : Caller) (replies : Bool) (bytes : List ℕ) (t : Transfer) (d : Device) (j : List ℕ) where
+module _ (step : ℕ) (c : Caller) (reply : Option (List ℕ)) (t : Transfer) (d : Device) (j : List ℕ) where
   abbrev by : Change → Outcome
-  by e = record { replies = replies; bytes = bytes; transfer = t; change = e }
+  by e = record { reply = reply; transfer = t; change = e }
 
   -- the record and the answer have nothing to do with the journal
   pub acted-alike : (e : Change) → stepped_of (answered c (by e) (seen d j)) ≡ stepped_of (answered c (by e) (alone d))

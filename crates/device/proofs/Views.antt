@@ -1,4 +1,5 @@
 -- A request sees of the record all that its outcome depends on.
+use Rattle.std.specs.Prelude.{Result, Ok, Err}
 use mathlib.Core.Path.{◌≡◌, refl, ap}
 use mathlib.Core.List.{List}
 use Prim.Native.Nat.{ℕ}
@@ -6,8 +7,8 @@ use lib.ListN.{get_or}
 use Rattle.rules.specs.declared.objects.Axis.TheVariants.{X, Y}
 use Rattle.rules.specs.declared.objects.Channel.{Channel}
 use Rattle.rules.specs.declared.objects.Channel.TheVariants.{One, Two}
-use Rattle.rules.specs.declared.objects.Found.{Found}
-use Rattle.rules.specs.declared.objects.Found.TheVariants.{At, NoObject, NoSubindex}
+use Rattle.rules.specs.declared.aborts.Abort.{Abort}
+use Rattle.rules.specs.declared.aborts.Abort.TheVariants.{ReadOnly}
 use Rattle.rules.specs.declared.objects.Object.{Object}
 use Rattle.rules.specs.declared.objects.Object.TheVariants.{Const, ErrorCount, ErrorEntry, Name, Save, Load, Filled, Angle, Of}
 use Rattle.rules.specs.declared.objects.Setting.{Setting}
@@ -75,15 +76,13 @@ transfer-alike One d j = refl
 transfer-alike Two d j = refl
 
 module _ (c : Channel) (request : List ℕ) (d : Device) (j : List ℕ) where
-  command-alike : (k : Command) (f : Found) → on_command c request k f (view.viewed (view_of c d)) ≡ on_command c request k f (seen d j)
-  command-alike (Write given) (At o) =
-      ap (λ (w : WriteRow). on_write request (unless (row_of o).writable 0x06010002 then length_check given (row_of o).size then w.value then w.state) (w.change c))
+  command-alike : (k : Command) (f : Result Object Abort) → on_command c request k f (view.viewed (view_of c d)) ≡ on_command c request k f (seen d j)
+  command-alike (Write given) (Ok o) =
+      ap (λ (w : WriteRow). on_write request (unless (row_of o).writable ReadOnly then length_check given (row_of o).size then w.value then w.state) (w.change c))
       (write_alike c d j o (value_for o request))
-  command-alike (Write given) NoObject = refl
-  command-alike (Write given) NoSubindex = refl
-  command-alike Read (At o) = rw (read_alike c d j o)
-  command-alike Read NoObject = refl
-  command-alike Read NoSubindex = refl
+  command-alike (Write given) (Err why) = refl
+  command-alike Read (Ok o) = rw (read_alike c d j o)
+  command-alike Read (Err why) = refl
   command-alike (Segment toggle) f = rw (transfer-alike c d j)
   command-alike End f = refl
   command-alike Unknown f = refl

@@ -1,9 +1,8 @@
 -- The record and the answer after a reply.
-use Rattle.std.specs.Prelude.{cond, [], ◌∷◌}
 use Rattle.acts.specs.declared.asked.Asked.{Asked}
 use Rattle.answers.specs.Answers.{answering}
 use Rattle.rules.specs.declared.parts.Transfer.{Transfer}
-use Rattle.rules.specs.Frames.{reply_frame}
+use Rattle.rules.specs.Frames.{reply_frames}
 use Rattle.service.specs.Transfers.{transfers_after}
 use Rattle.device.specs.declared.Device.{Device}
 use Rattle.device.specs.declared.Stepped.{Stepped}
@@ -29,4 +28,4 @@ with_transfer c t d = record {
 abbrev pub replied_by : Asked → Device → Stepped
 replied_by a d =
     let o = a.outcome in
-    record { device = with_transfer a.caller o.transfer d; answer = answering 0 (cond o.replies (reply_frame a.caller d.node o.bytes ∷ []) []) }
+    record { device = with_transfer a.caller o.transfer d; answer = answering 0 (reply_frames a.caller d.node o.reply) }
