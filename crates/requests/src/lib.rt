@@ -1,9 +1,9 @@
 // What a request of eight bytes asks, and the rule that names a frame.
 #![tactic(auto)]
 
-ghost use Rattle.std.specs.Prelude.{◌≡◌, ◌+◌, ◌*◌, ◌%◌, ◌^◌};
+ghost use Rattle.std.specs.Prelude.{◌≡◌, ◌%◌, ◌^◌};
 ghost use Rattle.rules.specs.Numbers.{four_at};
-ghost use Rattle.rules.specs.Requests.{command_of, index_of as index_of, subindex_of as subindex_of};
+ghost use Rattle.rules.specs.Requests.{command_of, index_of, subindex_of};
 ghost use Rattle.requests.specs.Frames.{command_to, request_to, rule_of};
 
 use rules::events::FrameHead;
@@ -59,7 +59,7 @@ pub fn selector(request: [u8; 8]) -> u32
     u32::from_le_bytes([request[1], request[2], request[3], request[4]])
 }
 
-// A number's lowest bytes, so many.
+// A number's lowest bytes, so many; each length by itself, since by a power the compiler would divide.
 fn lowest(size: u8, n: u32) -> u32
     ensures { result ≡ n % 256 ^ size }
 {
