@@ -5,9 +5,9 @@ use Prim.Native.Nat.{ℕ, ◌+◌, ◌/◌, ◌≤◌}
 use native.Mathlib.Omega.{arith}
 use lib.IntN.{ℤ, ◌+ℤ◌}
 use lib.Signed.{mag}
-use mir.Facts.{to_z-of_z}
-use mir.Syntax.{w16, w32}
-use mir.Val.{SFits, to_z, of_z}
+use mir.Syntax.{w16}
+use mir.Val.{SFits}
+use Rattle.angle.specs.declared.Tilt.{Tilt}
 use Rattle.laws.proofs.Bools.{cond_both}
 use Rattle.laws.proofs.Signed.{mag-add, mag-neg, mag-size}
 use Rattle.rules.proofs.Ranges.{inside-size}
@@ -27,8 +27,8 @@ q-small m r operating h =
     cond_both (λ (z : ℤ). mag z ≤ 180001) (reversed operating) (omega (arith, mag-neg (steps m r))) (omega arith)
 
 -- what a caller of `q` gets
-pub q_got : {m y : ℤ} (r operating : ℕ) → SFits w32 m → inside m ≡ true → y ≡ q (to_z w32 (of_z w32 m)) r operating → mag y ≤ 180001
-q_got {m} r operating f h e = rw (e, to_z-of_z f) (q-small m r operating h)
+pub q_got : {y : ℤ} (t : Tilt) → y ≡ q t.reading.m t.resolution t.settings.operating → mag y ≤ 180001
+q_got t e = rw e (q-small t.reading.m t.resolution t.settings.operating t.inside)
 
 -- and so is the sum: half a turn at most, and two numbers of 16 bits
 pub sum-small : (m : ℤ) (r operating : ℕ) (o d : ℤ) → within Resolution r ≡ true → inside m ≡ true → SFits w16 o → SFits w16 d → mag (sum m r operating o d) ≤ 65536 + 180000 / r

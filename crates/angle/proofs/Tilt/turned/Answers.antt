@@ -1,4 +1,4 @@
--- `turned` meets its contract: what whole turns leave of the way up, taken from half a turn.
+-- `Tilt::turned` meets its contract: what whole turns leave of the way up, taken from half a turn.
 use Rattle.std.proofs.Common.{◌≡◌, ◌∙◌, ℕ, ◌/◌, ◌≤◌, ◌<◌, arith, w32}
 use native.Mathlib.Nat.{mod-lt}
 use lib.IntN.{pos, ◌-ℤ◌}
@@ -9,7 +9,7 @@ use Rattle.rules.proofs.Rounding.{half-turn}
 use Rattle.rules.proofs.Turning.{some_turn, most-turn}
 use Rattle.rules.specs.Angle.{turned}
 use Rattle.angle.proofs.Turns.{same_rest}
-use Rattle.angle.proofs.turned.Goals as goal
+use Rattle.angle.proofs.Tilt.turned.Goals as goal
 
 taken : (half left : ℕ) → half ≤ 180000 → left < 360000 → to_z w32 half -ℤ to_z w32 left ≡ pos half -ℤ pos left
 taken half left h l = simp (to_z_pos w32 {n = half} (omega (arith, h)), to_z_pos w32 {n = left} (omega (arith, l)))
@@ -20,8 +20,8 @@ fits half left h l = record { sfits = omega (arith, mag-sub (pos half) (pos left
 pub returns : goal.returns
 unfolding turned
 returns c =
-    let r = c.args.r in
-    let w = c.requires.0 in
+    let r = c.args.self.resolution in
+    let w = c.args.self.within in
     let half = c.rounded-half.result in
     let left = c.rest-left.result in
     let half-is : half ≡ 180000 / r = c.rounded-half.ensures ∙ half-turn r w in
