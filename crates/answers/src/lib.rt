@@ -1,20 +1,17 @@
 // The answer to an event or a power-on: the refusal, and the frames that are sent.
 #![tactic(auto)]
 
-ghost use Rattle.std.specs.Prelude.{◌≡◌, true, [], ◌∷◌, ◌++◌};
+ghost use Rattle.std.specs.Prelude.{◌≡◌, [], ◌∷◌, ◌++◌};
 ghost use Rattle.rules.specs.Frames;
 ghost use Rattle.rules.specs.Frames.{pdo_frame, reply_frames};
 ghost use Rattle.rules.specs.Network;
-ghost use Rattle.rules.specs.Ranges.{axis_ok};
-ghost use Rattle.rules.specs.Settings.{in_table};
 ghost use Rattle.rules.specs.Time.{when_due};
 ghost use Rattle.answers.specs.Answers.{answering};
 
+use angle::Axes;
 use rules::events::Frame;
 use rules::objects::PdoNumber;
-use rules::parts::Reading;
 use rules::requests::Caller;
-use rules::settings::Settings;
 use rules::states;
 
 // The most frames of one answer.
@@ -69,12 +66,9 @@ pub fn timed(
     number: PdoNumber,
     node: u8,
     network: u8,
-    x: Reading,
-    y: Reading,
-    s: Settings,
+    axes: Axes,
 ) -> Answer
-    requires { (in_table s ≡ true) × ((axis_ok x ≡ true) × (axis_ok y ≡ true)) }
-    ensures { result ≡ answering 0 (when_due beats (Frames.heartbeat_frame node network) ++ when_due sends (pdo_frame number node x y s)) }
+    ensures { result ≡ answering 0 (when_due beats (Frames.heartbeat_frame node network) ++ when_due sends (pdo_frame number node axes.x axes.y axes.settings)) }
 {
     if !sends {
         if beats {
@@ -82,7 +76,7 @@ pub fn timed(
         }
         return Answer::silent(0);
     }
-    let pdo = frames::pdo(number, node, x, y, s);
+    let pdo = frames::pdo(number, node, axes);
     if beats {
         return Answer::two(frames::heartbeat(node, network), pdo);
     }

@@ -1,21 +1,17 @@
 // The frames that the device sends, and the error register that an emergency carries.
 #![tactic(auto)]
 
-ghost use Rattle.std.specs.Prelude.{◌≡◌, true, cond, ◌≤◌};
+ghost use Rattle.std.specs.Prelude.{◌≡◌, cond, ◌≤◌};
 ghost use Rattle.rules.specs.Errors;
 ghost use Rattle.rules.specs.Frames;
-ghost use Rattle.rules.specs.Frames.{no_frame, boot_up_frame, pdo_at, pdo_frame, reply_frame, requests_at, replies_at, reply_at};
-ghost use Rattle.rules.specs.declared.objects.Setting.TheVariants.{Resolution};
+ghost use Rattle.rules.specs.Frames.{frame, no_frame, boot_up_frame, pdo_at, pdo_frame, reply_frame, requests_at, replies_at, reply_at};
 ghost use Rattle.rules.specs.Angle.{shown};
-ghost use Rattle.rules.specs.Numbers.{unsigned};
-ghost use Rattle.rules.specs.Ranges.{axis_ok};
-ghost use Rattle.rules.specs.Settings.{within, in_table};
+ghost use Rattle.rules.specs.Numbers.{two, unsigned};
 
+use angle::{Axes, Tilt};
 use rules::events::Frame;
-use rules::objects::{Channel, PdoNumber};
-use rules::parts::Reading;
+use rules::objects::{Axis, Channel, PdoNumber};
 use rules::requests::Caller;
-use rules::settings::{AxisSettings, Settings};
 use rules::states;
 
 const HEARTBEAT_AT: u16 = 0x700;
@@ -24,28 +20,31 @@ const EMERGENCY_AT: u16 = 0x80;
 
 const LSS_REPLY_AT: u16 = 0x7E4;
 
-// The most bytes of a frame.
-const MOST_BYTES: u16 = 8;
+// An identifier and the bytes that are used; those past them are 0.
+fn frame<const N: usize>(identifier: u16, used: [u8; N]) -> Frame
+    requires { N ≤ 8 }
+    ensures { result ≡ frame identifier used.entry }
+{
+    let mut bytes = [0; 8];
+    bytes[..N].copy_from_slice(&used);
+    Frame {
+        identifier,
+        length: N as u16,
+        bytes,
+    }
+}
 
 // No frame is sent: all zero.
 pub fn none() -> Frame
     ensures { result ≡ no_frame }
 {
-    Frame {
-        identifier: 0,
-        length: 0,
-        bytes: [0, 0, 0, 0, 0, 0, 0, 0],
-    }
+    frame(0, [])
 }
 
 pub fn heartbeat(node: u8, network: u8) -> Frame
     ensures { result ≡ Frames.heartbeat_frame node network }
 {
-    Frame {
-        identifier: HEARTBEAT_AT + (node as u16),
-        length: 1,
-        bytes: [network, 0, 0, 0, 0, 0, 0, 0],
-    }
+    frame(HEARTBEAT_AT + (node as u16), [network])
 }
 
 pub fn boot_up(node: u8) -> Frame
@@ -58,20 +57,17 @@ pub fn emergency(node: u8, code: u16, register: u8) -> Frame
     ensures { result ≡ Frames.emergency_frame node code register }
 {
     let [low, high] = code.to_le_bytes();
-    let identifier = EMERGENCY_AT + (node as u16);
-    Frame {
-        identifier,
-        length: MOST_BYTES,
-        bytes: [low, high, register, 0, 0, 0, 0, 0],
-    }
+    frame(
+        EMERGENCY_AT + (node as u16),
+        [low, high, register, 0, 0, 0, 0, 0],
+    )
 }
 
-// What an axis shows, as the bits that the PDO carries.
-fn shown_bits(x: Reading, resolution: u16, s: AxisSettings) -> u16
-    requires { (within Resolution resolution ≡ true) × (axis_ok x ≡ true) }
-    ensures { result ≡ unsigned 16 (shown x resolution s) }
+// What an axis shows, as the two bytes that the PDO carries.
+fn shown_bytes(tilt: Tilt) -> [u8; 2]
+    ensures { result ≡ two (unsigned 16 (shown tilt.reading tilt.resolution tilt.settings)) }
 {
-    angle::shown(x, resolution, s).cast_unsigned()
+    tilt.shown().cast_unsigned().to_le_bytes()
 }
 
 // Where a PDO goes; the node is added.
@@ -84,20 +80,15 @@ pub fn pdo_at(number: PdoNumber) -> u16
 }
 
 #[tactic(auto, unfolding(rules::specs::Frames::pdo_frame))]
-pub fn pdo(number: PdoNumber, node: u8, x: Reading, y: Reading, s: Settings) -> Frame
-    requires { (in_table s ≡ true) × ((axis_ok x ≡ true) × (axis_ok y ≡ true)) }
-    ensures { result ≡ pdo_frame number node x y s }
+pub fn pdo(number: PdoNumber, node: u8, axes: Axes) -> Frame
+    ensures { result ≡ pdo_frame number node axes.x axes.y axes.settings }
 {
-    let first = shown_bits(x, s.resolution, s.x);
-    let second = shown_bits(y, s.resolution, s.y);
-    let [x_low, x_high] = first.to_le_bytes();
-    let [y_low, y_high] = second.to_le_bytes();
-    let identifier = pdo_at(number) + (node as u16);
-    Frame {
-        identifier,
-        length: 4,
-        bytes: [x_low, x_high, y_low, y_high, 0, 0, 0, 0],
-    }
+    let [x_low, x_high] = shown_bytes(axes.tilt(Axis::X));
+    let [y_low, y_high] = shown_bytes(axes.tilt(Axis::Y));
+    frame(
+        pdo_at(number) + (node as u16),
+        [x_low, x_high, y_low, y_high],
+    )
 }
 
 // Where a channel's requests come and its replies go.
@@ -132,11 +123,7 @@ fn reply_at(caller: Caller, node: u8) -> u16
 pub fn reply(caller: Caller, node: u8, bytes: [u8; 8]) -> Frame
     ensures { result ≡ reply_frame caller node bytes }
 {
-    Frame {
-        identifier: reply_at(caller, node),
-        length: MOST_BYTES,
-        bytes,
-    }
+    frame(reply_at(caller, node), bytes)
 }
 
 // A bit of the register, where it is set.

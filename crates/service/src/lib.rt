@@ -10,7 +10,7 @@ ghost use Rattle.rules.specs.Objects.{object_at};
 ghost use Rattle.rules.specs.Requests;
 ghost use Rattle.rules.specs.Service;
 ghost use Rattle.rules.specs.Service.{replied, on_segment, on_command};
-ghost use Rattle.view.specs.Seen.{viewed, Sound};
+ghost use Rattle.view.specs.Seen.{viewed};
 ghost use Rattle.rules.specs.State.{place, absent, transferring, no_transfers};
 ghost use Rattle.service.specs.Transfers.{transfers_after};
 ghost use Rattle.service.specs.Told.{told};
@@ -47,7 +47,10 @@ fn silent(transfer: Transfer) -> Outcome
 fn refuse(request: [u8; 8], why: Abort) -> Outcome
     ensures { result ≡ Service.refuse request why }
 {
-    said(replies::reply(0x80, request, u32::from(why)), states::ABSENT)
+    said(
+        replies::reply(0x80, request, u32::from(why)),
+        states::ABSENT,
+    )
 }
 
 #[tactic(auto, unfolding(rules::specs::Service::on_segment))]
@@ -71,7 +74,6 @@ fn segment(toggle: u8, transfer: Transfer) -> Outcome
 
 // The string begins a transfer.
 fn read(request: [u8; 8], v: View) -> Result<Outcome, Abort>
-    requires { Sound v }
     ensures { (c : Channel) → told request result ≡ on_command c request Read (object_at (Requests.index_of request) (Requests.subindex_of request)) (viewed v) }
 {
     let o = objects::named_by(request)?;
@@ -86,7 +88,6 @@ fn read(request: [u8; 8], v: View) -> Result<Outcome, Abort>
 
 // The value is taken in the object's own length; the checks judge the length that is given.
 fn write(channel: Channel, request: [u8; 8], given: Option<u8>, v: View) -> Result<Outcome, Abort>
-    requires { Sound v }
     ensures { told request result ≡ on_command channel request (Write given) (object_at (Requests.index_of request) (Requests.subindex_of request)) (viewed v) }
 {
     let o = objects::named_by(request)?;
@@ -103,7 +104,6 @@ fn write(channel: Channel, request: [u8; 8], given: Option<u8>, v: View) -> Resu
 
 // By the first byte.
 fn accept(channel: Channel, request: [u8; 8], v: View) -> Result<Outcome, Abort>
-    requires { Sound v }
     ensures { told request result ≡ on_command channel request (Requests.command request) (object_at (Requests.index_of request) (Requests.subindex_of request)) (viewed v) }
 {
     match requests::command(request[0]) {
@@ -118,7 +118,6 @@ fn accept(channel: Channel, request: [u8; 8], v: View) -> Result<Outcome, Abort>
 }
 
 fn serve(channel: Channel, request: [u8; 8], v: View) -> Outcome
-    requires { Sound v }
     ensures { result ≡ on_command channel request (Requests.command request) (object_at (Requests.index_of request) (Requests.subindex_of request)) (viewed v) }
 {
     match accept(channel, request, v) {
@@ -135,7 +134,6 @@ fn is_served(network: u8) -> bool
 
 // What a request brings about, served in Pre-Operational and Operational.
 pub fn outcome(channel: Channel, request: [u8; 8], v: View) -> Outcome
-    requires { Sound v }
     ensures { result ≡ Service.outcome channel request (viewed v) }
 {
     if is_served(v.network) {

@@ -29,7 +29,7 @@ pub fn fixed_value(f: Fixed, v: View) -> u32
     let node = v.node as u32;
     match f {
         Fixed::DeviceType => 0x0002019A,
-        Fixed::ErrorRegister => frames::register(v.spoiled, v.x.state, v.y.state) as u32,
+        Fixed::ErrorRegister => frames::register(v.spoiled, v.axes.x.state, v.axes.y.state) as u32,
         Fixed::SyncIdentifier => 0x80,
         Fixed::SaveCount => 1,
         Fixed::LoadCount => 1,
@@ -73,15 +73,20 @@ fn pdo_value(number: PdoNumber, part: PdoSetting, s: PdoSettings, node: u8) -> u
 
 // A setting as the number that is read.
 pub fn setting_value(s: Setting, v: View) -> u32
-    ensures { result ≡ setting_value s v.node (setting s v.running) }
+    ensures { result ≡ setting_value s v.node (setting s v.axes.settings) }
 {
     match s {
-        Setting::Heartbeat => v.running.heartbeat as u32,
-        Setting::Pdo(number, part) => pdo_value(number, part, v.running.pdo(number), v.node),
-        Setting::Resolution => v.running.resolution as u32,
-        Setting::Operating(axis) => v.running.axis(axis).operating as u32,
-        Setting::Preset(axis) => v.running.axis(axis).preset.cast_unsigned() as u32,
-        Setting::Offset(axis) => v.running.axis(axis).offset.cast_unsigned() as u32,
-        Setting::Differential(axis) => v.running.axis(axis).differential.cast_unsigned() as u32,
+        Setting::Heartbeat => v.axes.settings.heartbeat as u32,
+        Setting::Pdo(number, part) => pdo_value(number, part, v.axes.settings.pdo(number), v.node),
+        Setting::Resolution => v.axes.settings.resolution as u32,
+        Setting::Operating(axis) => v.axes.settings.axis(axis).operating as u32,
+        Setting::Preset(axis) => v.axes.settings.axis(axis).preset.cast_unsigned() as u32,
+        Setting::Offset(axis) => v.axes.settings.axis(axis).offset.cast_unsigned() as u32,
+        Setting::Differential(axis) => v
+            .axes
+            .settings
+            .axis(axis)
+            .differential
+            .cast_unsigned() as u32,
     }
 }
