@@ -23,7 +23,6 @@ use Rattle.rules.specs.Requests.{command, index_of, subindex_of, value_for}
 use Rattle.rules.specs.Service.{on_write, on_command, outcome}
 use Rattle.rules.specs.State.{State, transfer_of}
 use Rattle.rules.specs.Writes.{WriteRow, ◌then◌, unless, length_check, setting_write, write_of}
-use Rattle.view.specs.Seen as view
 use Rattle.device.specs.declared.Device.{Device}
 use Rattle.rules.specs.declared.requests.LssCommand.{LssCommand}
 use Rattle.rules.specs.declared.requests.LssCommand.TheVariants.{Switch, Select, SetNode, StoreNode, TellIdentity, TellNode, Unheard}
@@ -33,7 +32,7 @@ use Rattle.device.specs.Views.{view_of, sight_of}
 module _ (c : Channel) (d : Device) (j : List ℕ) where
   -- the view's state, and the record's beside the journal
   abbrev looked : State
-  looked = view.viewed (view_of c d)
+  looked = view_of c d
 
   abbrev whole : State
   whole = seen d j
@@ -71,12 +70,12 @@ module _ (c : Channel) (d : Device) (j : List ℕ) where
   write_alike (Angle a) v = refl
   write_alike (Of s) v = setting-alike s v
 
-transfer-alike : (c : Channel) (d : Device) (j : List ℕ) → transfer_of c (view.viewed (view_of c d)) ≡ transfer_of c (seen d j)
+transfer-alike : (c : Channel) (d : Device) (j : List ℕ) → transfer_of c (view_of c d) ≡ transfer_of c (seen d j)
 transfer-alike One d j = refl
 transfer-alike Two d j = refl
 
 module _ (c : Channel) (request : List ℕ) (d : Device) (j : List ℕ) where
-  command-alike : (k : Command) (f : Result Object Abort) → on_command c request k f (view.viewed (view_of c d)) ≡ on_command c request k f (seen d j)
+  command-alike : (k : Command) (f : Result Object Abort) → on_command c request k f (view_of c d) ≡ on_command c request k f (seen d j)
   command-alike (Write given) (Ok o) =
       ap (λ (w : WriteRow). on_write request (unless (row_of o).writable ReadOnly then length_check given (row_of o).size then w.value then w.state) (w.change c))
       (write_alike c d j o (value_for o request))
@@ -87,7 +86,7 @@ module _ (c : Channel) (request : List ℕ) (d : Device) (j : List ℕ) where
   command-alike End f = refl
   command-alike Unknown f = refl
 
-  pub outcome-alike : outcome c request (view.viewed (view_of c d)) ≡ outcome c request (seen d j)
+  pub outcome-alike : outcome c request (view_of c d) ≡ outcome c request (seen d j)
   outcome-alike = rw (command-alike (command request) (object_at (index_of request) (subindex_of request)), transfer-alike c d j)
 
 -- and so does LSS

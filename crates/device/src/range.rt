@@ -1,14 +1,27 @@
 // Every field of the record in its range, and a journal of its length.
 ghost use Rattle.std.specs.Prelude.{◌≡◌};
-ghost use Rattle.device.specs.Seen.{alone, refusal_of};
+ghost use Rattle.device.specs.Seen.{alone, Ranged, refusal_of};
 
 use crate::Device;
+use angle::Axes;
 
 const WRONG_LENGTH: u16 = 1;
 
 const OUT_OF_RANGE: u16 = 3;
 
 impl Device {
+    // Both axes, with the settings that their angles go by.
+    pub(crate) fn axes(self) -> Axes
+        requires { Ranged self }
+        ensures { (result.x ≡ self.x) × ((result.y ≡ self.y) × (result.settings ≡ self.running)) }
+    {
+        Axes {
+            x: self.x,
+            y: self.y,
+            settings: self.running,
+        }
+    }
+
     // The number of the refusal that record and length bring; 0 where it is none. The parts' order is the cheapest of those that were counted.
     pub fn refusal(self, length: usize) -> u16
         ensures { result ≡ refusal_of length (alone self) }

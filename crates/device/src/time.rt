@@ -24,9 +24,7 @@ impl Device {
             PdoNumber::First,
             self.node,
             self.network,
-            self.x,
-            self.y,
-            self.running,
+            self.axes(),
         );
         self.heartbeat = timers::elapsed_after(true, period, self.heartbeat, ms);
         self.pdo = timers::ticked(self.network, self.running.pdo, self.pdo, ms);
@@ -47,9 +45,7 @@ impl Device {
             PdoNumber::First,
             self.node,
             self.network,
-            self.x,
-            self.y,
-            self.running,
+            self.axes(),
         );
         self.pdo = timers::synced(self.network, self.running.pdo, self.pdo);
         Stepped {

@@ -1,14 +1,11 @@
 -- `Device::tick` meets its contract: what it sends and the counts then, put together.
 use Rattle.std.proofs.Common.{arith}
-use Rattle.rules.proofs.InRange.{parts}
 use Rattle.rules.specs.Time.{on_tick}
 use Rattle.device.proofs.Steps.{ranged}
 use Rattle.device.proofs.Device.tick.Goals as goal
 
-pub timed-answer-requires : goal.timed-answer-requires
-timed-answer-requires c =
-    let p = parts _ (ranged 1 c.args.self c.args.act (λ z. absurd (omega (arith, z))) c.requires) in
-    (p.running, (p.x, p.y))
+pub axes-requires : goal.axes-requires
+axes-requires c = ranged 1 c.args.self c.args.act (λ z. absurd (omega (arith, z))) c.requires
 
 pub returns : goal.returns
 unfolding on_tick
@@ -17,6 +14,9 @@ returns c =
       c.ticked-self.ensures,
       c.elapsed_after.ensures,
       c.timed-answer.ensures,
+      c.axes.ensures.0,
+      c.axes.ensures.1.0,
+      c.axes.ensures.1.1,
       c.tick_sends-sends.ensures,
       c.reaches-beats.ensures,
       c.requires.0,
