@@ -1,3 +1,3 @@
-pub mod Listed
-pub mod Axes
+pub mod Faults
+pub mod After
 pub mod Alarm

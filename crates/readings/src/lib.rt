@@ -1,14 +1,15 @@
-// A reading of an axis: the axes after it, whether that is a new fault, the code of the fault, the error list, and the emergency.
+// A reading of an axis: the axes after it, the fault that it brings, the error list, and the emergency.
 #![tactic(auto)]
 
 ghost use Rattle.std.specs.Prelude.{◌≡◌};
+ghost use Rattle.angle.specs.OfAxis.{of_axis};
+ghost use Rattle.rules.specs.Errors.{register};
 ghost use Rattle.rules.specs.Network.{no_reading};
-ghost use Rattle.rules.specs.Readings;
-ghost use Rattle.rules.specs.Readings.{fault_code};
+ghost use Rattle.rules.specs.Readings.{fault_code, measured, fails};
 ghost use Rattle.answers.specs.Answers.{answering};
 ghost use Rattle.readings.specs.Alarm.{alarm_of};
-ghost use Rattle.readings.specs.Axes.{of_axis, x_after, y_after};
-ghost use Rattle.readings.specs.Listed.{listed_of};
+ghost use Rattle.readings.specs.After.{after};
+ghost use Rattle.readings.specs.Faults.{fault_of, listed_of};
 
 use answers::Answer;
 use rules::errors::ErrorList;
@@ -27,7 +28,7 @@ pub fn no_reading() -> Reading
 }
 
 fn measured(m: i32, x: Reading) -> Reading
-    ensures { result ≡ Readings.measured m x }
+    ensures { result ≡ measured m x }
 {
     let last = x.m;
     if ranges::inside(m) {
@@ -44,13 +45,13 @@ fn measured(m: i32, x: Reading) -> Reading
 }
 
 // The axis becomes faulty with this reading.
-pub fn fails(m: i32, x: Reading) -> bool
-    ensures { result ≡ Readings.fails m x }
+fn fails(m: i32, x: Reading) -> bool
+    ensures { result ≡ fails m x }
 {
     !ranges::inside(m) & (x.state != states::FAULTY)
 }
 
-pub fn fault_code(axis: Axis) -> u16
+fn fault_code(axis: Axis) -> u16
     ensures { result ≡ fault_code axis }
 {
     match axis {
@@ -59,54 +60,74 @@ pub fn fault_code(axis: Axis) -> u16
     }
 }
 
+// Both axes' readings.
+#[derive(Clone, Copy)]
+pub struct Readings {
+    pub x: Reading,
+    pub y: Reading,
+}
+
+impl Readings {
+    // The axis that is read.
+    fn of(self, axis: Axis) -> Reading
+        ensures { result ≡ of_axis axis self.x self.y }
+    {
+        match axis {
+            Axis::X => self.x,
+            Axis::Y => self.y,
+        }
+    }
+
+    // The code of the fault that a reading brings, where it makes the axis faulty.
+    pub fn fault(self, axis: Axis, m: i32) -> Option<u16>
+        ensures { result ≡ fault_of axis m (of_axis axis self.x self.y) }
+    {
+        if fails(m, self.of(axis)) {
+            Some(fault_code(axis))
+        } else {
+            None
+        }
+    }
+
+    // Both after a reading: the axis that is not read stays.
+    pub fn after(mut self, axis: Axis, m: i32) -> Self
+        ensures { result ≡ after axis m self }
+    {
+        match axis {
+            Axis::X => self.x = measured(m, self.x),
+            Axis::Y => self.y = measured(m, self.y),
+        }
+        self
+    }
+
+    // The error register, with the journal's mark.
+    pub fn register(self, spoiled: u8) -> u8
+        ensures { result ≡ register spoiled self.x.state self.y.state }
+    {
+        frames::register(spoiled, self.x.state, self.y.state)
+    }
+}
+
 // The list after the reading: a fault is entered.
-pub fn listed(fault: bool, code: u16, l: ErrorList) -> ErrorList
-    ensures { result ≡ listed_of fault code l }
+pub fn listed(fault: Option<u16>, l: ErrorList) -> ErrorList
+    ensures { result ≡ listed_of fault l }
 {
-    if fault { l.enter(code) } else { l }
-}
-
-// The axis that is read.
-pub fn of(axis: Axis, x: Reading, y: Reading) -> Reading
-    ensures { result ≡ of_axis axis x y }
-{
-    match axis {
-        Axis::X => x,
-        Axis::Y => y,
-    }
-}
-
-// Each axis after the reading: the one that is not read stays.
-pub fn x_after(axis: Axis, m: i32, x: Reading) -> Reading
-    ensures { result ≡ x_after axis m x }
-{
-    match axis {
-        Axis::X => measured(m, x),
-        Axis::Y => x,
-    }
-}
-
-pub fn y_after(axis: Axis, m: i32, y: Reading) -> Reading
-    ensures { result ≡ y_after axis m y }
-{
-    match axis {
-        Axis::X => y,
-        Axis::Y => measured(m, y),
+    match fault {
+        Some(code) => l.enter(code),
+        None => l,
     }
 }
 
 // The emergency of a fault, or of the register that came back to 0.
-pub fn alarm(node: u8, network: u8, fault: bool, code: u16, before: u8, after: u8) -> Answer
-    ensures { result ≡ answering 0 (alarm_of node network fault code before after) }
+pub fn alarm(node: u8, network: u8, fault: Option<u16>, before: u8, after: u8) -> Answer
+    ensures { result ≡ answering 0 (alarm_of node network fault before after) }
 {
     if network == states::STOPPED {
         return Answer::silent(0);
     }
-    if fault {
-        return Answer::one(frames::emergency(node, code, after));
+    match fault {
+        Some(code) => Answer::one(frames::emergency(node, code, after)),
+        None if (before != 0) & (after == 0) => Answer::one(frames::emergency(node, 0, after)),
+        None => Answer::silent(0),
     }
-    if (before != 0) & (after == 0) {
-        return Answer::one(frames::emergency(node, 0, after));
-    }
-    Answer::silent(0)
 }

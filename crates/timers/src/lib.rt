@@ -19,95 +19,122 @@ pub fn no_counts() -> PdoCounts
     }
 }
 
-// The count reaches its period with a tick of so many milliseconds.
-pub fn reaches(runs: bool, period: u16, elapsed: u16, ms: u16) -> bool
-    ensures { result ≡ Time.reaches runs period elapsed ms }
-{
-    runs & (period != 0) & ((period as u32) <= (elapsed as u32) + (ms as u32))
+// An elapsed count with its period; it counts only where it runs.
+#[derive(Clone, Copy)]
+pub struct Timer {
+    pub runs: bool,
+    pub period: u16,
+    pub elapsed: u16,
 }
 
-// The count after the tick; what goes beyond the period is lost.
-pub fn elapsed_after(runs: bool, period: u16, elapsed: u16, ms: u16) -> u16
-    ensures { result ≡ Time.elapsed_after runs period elapsed ms }
-{
-    if reaches(runs, period, elapsed, ms) {
-        return 0;
+impl Timer {
+    // The count reaches its period with a tick of so many milliseconds.
+    pub fn reaches(self, ms: u16) -> bool
+        ensures { result ≡ Time.reaches self.runs self.period self.elapsed ms }
+    {
+        self.runs
+            & (self.period != 0)
+            & ((self.period as u32) <= (self.elapsed as u32) + (ms as u32))
     }
-    if runs & (period != 0) {
-        return elapsed + ms;
-    }
-    elapsed
-}
 
-// The PDO is sent in Operational where it is on.
-fn sending(network: u8, s: PdoSettings) -> bool
-    ensures { result ≡ sending_of network s }
-{
-    (network == states::OPERATIONAL) & (s.on == 1)
-}
-
-fn timer_runs(network: u8, s: PdoSettings) -> bool
-    ensures { result ≡ timer_runs_of network s }
-{
-    sending(network, s) & (PdoSettings::LEAST_TIMED <= s.transmission)
-}
-
-// The PDO goes out with a tick of so many milliseconds.
-pub fn tick_sends(network: u8, s: PdoSettings, c: PdoCounts, ms: u16) -> bool
-    ensures { result ≡ Time.reaches (timer_runs_of network s) s.timer c.elapsed ms }
-{
-    reaches(timer_runs(network, s), s.timer, c.elapsed, ms)
-}
-
-pub fn ticked(network: u8, s: PdoSettings, c: PdoCounts, ms: u16) -> PdoCounts
-    ensures { result ≡ record { elapsed = Time.elapsed_after (timer_runs_of network s) s.timer c.elapsed ms; syncs = c.syncs } }
-{
-    PdoCounts {
-        elapsed: elapsed_after(timer_runs(network, s), s.timer, c.elapsed, ms),
-        syncs: c.syncs,
+    // The count after the tick; what goes beyond the period is lost.
+    pub fn after(self, ms: u16) -> u16
+        ensures { result ≡ Time.elapsed_after self.runs self.period self.elapsed ms }
+    {
+        if self.reaches(ms) {
+            return 0;
+        }
+        if self.runs & (self.period != 0) {
+            return self.elapsed + ms;
+        }
+        self.elapsed
     }
 }
 
-fn sync_counts(network: u8, s: PdoSettings) -> bool
-    ensures { result ≡ sync_counts_of network s }
-{
-    sending(network, s)
-        & (PdoSettings::LEAST_SYNCHRONOUS <= s.transmission)
-        & (s.transmission <= PdoSettings::MOST_SYNCHRONOUS)
+// A PDO's settings and counts, in an NMT state.
+#[derive(Clone, Copy)]
+pub struct Pdo {
+    pub network: u8,
+    pub settings: PdoSettings,
+    pub counts: PdoCounts,
 }
 
-// The SYNC that is counted is the last of its type.
-fn sync_due(transmission: u8, syncs: u16) -> bool
-    ensures { result ≡ sync_due_of transmission syncs }
-{
-    (transmission as u32) <= (syncs as u32) + 1
-}
-
-fn syncs_after(transmission: u8, syncs: u16) -> u16
-    ensures { result ≡ syncs_after_of transmission syncs }
-{
-    if sync_due(transmission, syncs) {
-        0
-    } else {
-        syncs + 1
+impl Pdo {
+    // It is sent in Operational where it is on.
+    fn is_sent(self) -> bool
+        ensures { result ≡ sending_of self.network self.settings }
+    {
+        (self.network == states::OPERATIONAL) & (self.settings.on == 1)
     }
-}
 
-// The PDO goes out with this SYNC.
-pub fn sync_sends(network: u8, s: PdoSettings, c: PdoCounts) -> bool
-    ensures { result ≡ (sync_counts_of network s && sync_due_of s.transmission c.syncs) }
-{
-    sync_counts(network, s) & sync_due(s.transmission, c.syncs)
-}
-
-pub fn synced(network: u8, s: PdoSettings, c: PdoCounts) -> PdoCounts
-    ensures { result ≡ cond (sync_counts_of network s) (record { elapsed = c.elapsed; syncs = syncs_after_of s.transmission c.syncs }) c }
-{
-    if sync_counts(network, s) {
-        return PdoCounts {
-            elapsed: c.elapsed,
-            syncs: syncs_after(s.transmission, c.syncs),
-        };
+    // Types 254 and 255 go by the timer.
+    fn timer(self) -> Timer
+        ensures { result ≡ record { runs = timer_runs_of self.network self.settings; period = self.settings.timer; elapsed = self.counts.elapsed } }
+    {
+        Timer {
+            runs: self.is_sent() & (PdoSettings::LEAST_TIMED <= self.settings.transmission),
+            period: self.settings.timer,
+            elapsed: self.counts.elapsed,
+        }
     }
-    c
+
+    // It goes out with a tick of so many milliseconds.
+    pub fn tick_sends(self, ms: u16) -> bool
+        ensures { result ≡ Time.reaches (timer_runs_of self.network self.settings) self.settings.timer self.counts.elapsed ms }
+    {
+        self.timer().reaches(ms)
+    }
+
+    pub fn ticked(self, ms: u16) -> PdoCounts
+        ensures { result ≡ record { elapsed = Time.elapsed_after (timer_runs_of self.network self.settings) self.settings.timer self.counts.elapsed ms; syncs = self.counts.syncs } }
+    {
+        PdoCounts {
+            elapsed: self.timer().after(ms),
+            syncs: self.counts.syncs,
+        }
+    }
+
+    fn counts_syncs(self) -> bool
+        ensures { result ≡ sync_counts_of self.network self.settings }
+    {
+        self.is_sent()
+            & (PdoSettings::LEAST_SYNCHRONOUS <= self.settings.transmission)
+            & (self.settings.transmission <= PdoSettings::MOST_SYNCHRONOUS)
+    }
+
+    // The SYNC that is counted is the last of its type.
+    fn is_sync_due(self) -> bool
+        ensures { result ≡ sync_due_of self.settings.transmission self.counts.syncs }
+    {
+        (self.settings.transmission as u32) <= (self.counts.syncs as u32) + 1
+    }
+
+    fn syncs_after(self) -> u16
+        ensures { result ≡ syncs_after_of self.settings.transmission self.counts.syncs }
+    {
+        if self.is_sync_due() {
+            0
+        } else {
+            self.counts.syncs + 1
+        }
+    }
+
+    // It goes out with this SYNC.
+    pub fn sync_sends(self) -> bool
+        ensures { result ≡ (sync_counts_of self.network self.settings && sync_due_of self.settings.transmission self.counts.syncs) }
+    {
+        self.counts_syncs() & self.is_sync_due()
+    }
+
+    pub fn synced(self) -> PdoCounts
+        ensures { result ≡ cond (sync_counts_of self.network self.settings) (record { elapsed = self.counts.elapsed; syncs = syncs_after_of self.settings.transmission self.counts.syncs }) self.counts }
+    {
+        if self.counts_syncs() {
+            return PdoCounts {
+                elapsed: self.counts.elapsed,
+                syncs: self.syncs_after(),
+            };
+        }
+        self.counts
+    }
 }
