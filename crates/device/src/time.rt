@@ -7,27 +7,43 @@ ghost use Rattle.device.specs.Seen.{alone};
 
 use crate::{Device, Stepped};
 use acts::Act;
+use readings::Readings;
 use rules::objects::PdoNumber;
+use timers::{Pdo, Timer};
 
 impl Device {
+    // The PDO, as its counts go.
+    fn timed_pdo(self) -> Pdo
+        ensures { result ≡ record { network = self.network; settings = self.running.pdo; counts = self.pdo } }
+    {
+        Pdo {
+            network: self.network,
+            settings: self.running.pdo,
+            counts: self.pdo,
+        }
+    }
+
     pub fn tick(mut self, act: Act) -> Stepped
         requires { Ready 1 self act }
         ensures { result ≡ stepped_of (does act (alone self)) }
     {
         let ms = act.ms;
-        let period = self.running.heartbeat;
-        let beats = timers::reaches(true, period, self.heartbeat, ms);
-        let sends = timers::tick_sends(self.network, self.running.pdo, self.pdo, ms);
+        let heartbeat = Timer {
+            runs: true,
+            period: self.running.heartbeat,
+            elapsed: self.heartbeat,
+        };
+        let pdo = self.timed_pdo();
         let answer = answers::timed(
-            beats,
-            sends,
+            heartbeat.reaches(ms),
+            pdo.tick_sends(ms),
             PdoNumber::First,
             self.node,
             self.network,
             self.axes(),
         );
-        self.heartbeat = timers::elapsed_after(true, period, self.heartbeat, ms);
-        self.pdo = timers::ticked(self.network, self.running.pdo, self.pdo, ms);
+        self.heartbeat = heartbeat.after(ms);
+        self.pdo = pdo.ticked(ms);
         Stepped {
             device: self,
             answer,
@@ -38,16 +54,16 @@ impl Device {
         requires { Ready 2 self act }
         ensures { result ≡ stepped_of (does act (alone self)) }
     {
-        let sends = timers::sync_sends(self.network, self.running.pdo, self.pdo);
+        let pdo = self.timed_pdo();
         let answer = answers::timed(
             false,
-            sends,
+            pdo.sync_sends(),
             PdoNumber::First,
             self.node,
             self.network,
             self.axes(),
         );
-        self.pdo = timers::synced(self.network, self.running.pdo, self.pdo);
+        self.pdo = pdo.synced();
         Stepped {
             device: self,
             answer,
@@ -61,16 +77,24 @@ impl Device {
         let axis = act.axis;
         let m = act.m;
         let spoiled = self.saves.spoiled;
-        let before = frames::register(spoiled, self.x.state, self.y.state);
-        let fault = readings::fails(m, readings::of(axis, self.x, self.y));
-        let code = readings::fault_code(axis);
-        self.errors = readings::listed(fault, code, self.errors);
-        self.x = readings::x_after(axis, m, self.x);
-        self.y = readings::y_after(axis, m, self.y);
-        let after = frames::register(spoiled, self.x.state, self.y.state);
+        let old = Readings {
+            x: self.x,
+            y: self.y,
+        };
+        let new = old.after(axis, m);
+        let fault = old.fault(axis, m);
+        self.errors = readings::listed(fault, self.errors);
+        self.x = new.x;
+        self.y = new.y;
         Stepped {
             device: self,
-            answer: readings::alarm(self.node, self.network, fault, code, before, after),
+            answer: readings::alarm(
+                self.node,
+                self.network,
+                fault,
+                old.register(spoiled),
+                new.register(spoiled),
+            ),
         }
     }
 }

@@ -1,17 +1,20 @@
 -- `Device::measure` meets its contract: the parts of the answer, put together by the axis.
-use Rattle.std.proofs.Common.{◌≡◌, Bool, ℕ, ℤ, w32, arith}
+use Rattle.std.proofs.Common.{◌≡◌, refl, Bool, true, false, cond, not, ◌&&◌, ℕ, ℤ, [], ◌∷◌, eqb, Option, Some, None, w32, arith}
+use Rattle.angle.specs.OfAxis.{of_axis}
 use Rattle.laws.proofs.Signed.{ok}
 use Rattle.answers.specs.Answers.{answering}
 use Rattle.answers.specs.declared.Answer.{Answer}
-use Rattle.readings.specs.Alarm.{alarm_of}
-use Rattle.readings.specs.Axes.{of_axis, x_after, y_after}
-use Rattle.readings.specs.Listed.{listed_of}
+use Rattle.readings.specs.declared.Readings.{Readings}
+use Rattle.readings.specs.After.{after}
+use Rattle.readings.specs.Alarm.{alarm_frames, alarm_of}
+use Rattle.readings.specs.Faults.{fault_of, listed_of}
 use Rattle.rules.specs.declared.errors.ErrorList.{ErrorList}
 use Rattle.rules.specs.declared.objects.Axis.{Axis}
 use Rattle.rules.specs.declared.objects.Axis.TheVariants.{X, Y}
 use Rattle.rules.specs.declared.parts.Reading.{Reading}
-use Rattle.rules.specs.Errors.{register}
-use Rattle.rules.specs.Readings.{on_reading, fault_code, fails, register_of}
+use Rattle.rules.specs.Errors.{entered, register}
+use Rattle.rules.specs.Frames.{emergency_frame}
+use Rattle.rules.specs.Readings.{on_reading, fails}
 use Rattle.device.specs.declared.Device.{Device}
 use Rattle.device.specs.declared.Stepped.{Stepped}
 use Rattle.device.specs.Answers.{stepped_of}
@@ -35,33 +38,40 @@ measured_as d errors x y = record {
   transfers = d.transfers;
 }
 
+-- the list and the frames, by whether the reading is a fault
+listed_when : (b : Bool) (code : ℕ) (l : ErrorList) → listed_of (cond b (Some code) None) l ≡ cond b (entered code l) l
+listed_when true code l = refl
+listed_when false code l = refl
+
+sent_when : (b : Bool) (node code before now : ℕ)
+    → alarm_frames node (cond b (Some code) None) before now
+    ≡ cond b (emergency_frame node code now ∷ []) (cond (not (eqb before 0) && eqb now 0) (emergency_frame node 0 now ∷ []) [])
+sent_when true node code before now = refl
+sent_when false node code before now = refl
+
 -- by the axis: the parts of the answer, put together
-together : (d : Device) (a : Axis) (m : ℤ) (old x y : Reading) (before after code : ℕ) (fault : Bool) (list : ErrorList) (sent : Answer)
-    → old ≡ of_axis a d.x d.y
-    → before ≡ register_of (alone d)
-    → fault ≡ fails m old
-    → code ≡ fault_code a
-    → list ≡ listed_of fault code d.errors
-    → x ≡ x_after a m d.x
-    → y ≡ y_after a m d.y
-    → after ≡ register d.saves.spoiled x.state y.state
-    → sent ≡ answering 0 (alarm_of d.node d.network fault code before after)
-    → ◌≡◌ {A = Stepped} (record { device = measured_as d list x y; answer = sent }) (stepped_of (on_reading a m (alone d)))
+together : (d : Device) (a : Axis) (m : ℤ) (new : Readings) (before now : ℕ) (fault : Option ℕ) (list : ErrorList) (sent : Answer)
+    → new ≡ after a m (record { x = d.x; y = d.y })
+    → fault ≡ fault_of a m (of_axis a d.x d.y)
+    → list ≡ listed_of fault d.errors
+    → before ≡ register d.saves.spoiled d.x.state d.y.state
+    → now ≡ register d.saves.spoiled new.x.state new.y.state
+    → sent ≡ answering 0 (alarm_of d.node d.network fault before now)
+    → ◌≡◌ {A = Stepped} (record { device = measured_as d list new.x new.y; answer = sent }) (stepped_of (on_reading a m (alone d)))
 unfolding on_reading
-together d X m old x y before after code fault list sent e₁ e₂ e₃ e₄ e₅ e₆ e₇ e₈ e₉ = rw (e₉, e₈, e₇, e₆, e₅, e₄, e₃, e₂, e₁)
-together d Y m old x y before after code fault list sent e₁ e₂ e₃ e₄ e₅ e₆ e₇ e₈ e₉ = rw (e₉, e₈, e₇, e₆, e₅, e₄, e₃, e₂, e₁)
+together d X m new before now fault list sent e₁ e₂ e₃ e₄ e₅ e₆ =
+    rw (e₆, e₅, e₄, e₃, e₂, e₁, listed_when (fails m d.x) 0xFF01 d.errors, sent_when (fails m d.x) d.node 0xFF01 _ _)
+together d Y m new before now fault list sent e₁ e₂ e₃ e₄ e₅ e₆ =
+    rw (e₆, e₅, e₄, e₃, e₂, e₁, listed_when (fails m d.y) 0xFF02 d.errors, sent_when (fails m d.y) d.node 0xFF02 _ _)
 
 pub returns : goal.returns
 returns c =
     let read = ok w32 c.args.act.m (omega arith) in
     rw c.requires.0
-    (together _ _ _ _ _ _ _ _ _ _ _ _
-    c.of.ensures
-    c.register-before.ensures
-    (simp read at c.fails-fault.ensures)
-    c.fault_code-code.ensures
+    (together _ _ _ _ _ _ _ _ _
+    (simp read at c.after-new.ensures)
+    (simp read at c.fault-fault.ensures)
     c.listed-self.ensures
-    (simp read at c.x_after-self.ensures)
-    (simp read at c.y_after-self.ensures)
-    c.register-after.ensures
+    c.register.ensures
+    c.register-2.ensures
     c.alarm.ensures)

@@ -15,6 +15,7 @@ returns c = simp (
   c.axes.ensures.0,
   c.axes.ensures.1.0,
   c.axes.ensures.1.1,
-  c.sync_sends-sends.ensures,
+  c.sync_sends.ensures,
+  c.timed_pdo-pdo.ensures,
   c.requires.0,
 )

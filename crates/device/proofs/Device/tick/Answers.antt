@@ -12,12 +12,13 @@ unfolding on_tick
 returns c =
     simp (
       c.ticked-self.ensures,
-      c.elapsed_after.ensures,
+      c.after.ensures,
       c.timed-answer.ensures,
       c.axes.ensures.0,
       c.axes.ensures.1.0,
       c.axes.ensures.1.1,
-      c.tick_sends-sends.ensures,
-      c.reaches-beats.ensures,
+      c.tick_sends.ensures,
+      c.reaches.ensures,
+      c.timed_pdo-pdo.ensures,
       c.requires.0,
     )
