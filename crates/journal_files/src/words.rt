@@ -1,32 +1,23 @@
 // The words that a program is run with; the first is the program's own name.
+ghost use Rattle.std.specs.Prelude.{IfSome};
 ghost use Rattle.journal_files.specs.Counts.{Counts};
 
 use std::env::FillError;
 use std::rt::Env;
 
 fn is_there(rt: &impl Env, i: usize) -> bool {
-    let mut none = [0u8; 0];
-    match rt.arg(i, &mut none) {
-        Err(FillError::NotPresent) => false,
-        _ => true,
-    }
+    !matches!(rt.arg(i, &mut [0u8; 0]), Err(FillError::NotPresent))
 }
 
 pub fn count(rt: &impl Env) -> usize {
-    for i in 0..usize::MAX {
-        if !is_there(rt, i) {
-            return i;
-        }
-    }
-    usize::MAX
+    (0..usize::MAX)
+        .find(|i| !is_there(rt, *i))
+        .unwrap_or(usize::MAX)
 }
 
-// Puts a word at the start of a place and gives its length, 0 where it is missing or longer than the place.
-pub fn word(rt: &impl Env, i: usize, place: &mut [u8]) -> usize
-    ensures { Counts result place.new }
+// Puts a word at the start of a place and gives its length; none where it is missing or longer than the place.
+pub fn word(rt: &impl Env, i: usize, place: &mut [u8]) -> Option<usize>
+    ensures { IfSome result (λ n. Counts n place.new) }
 {
-    match rt.arg(i, place) {
-        Ok(length) => length,
-        Err(_) => 0,
-    }
+    rt.arg(i, place).ok()
 }
