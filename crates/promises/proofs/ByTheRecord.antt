@@ -38,7 +38,7 @@ module _ (d : Device) (j k : List ℕ) where
 
   -- a request: its outcome does not go by the journal, nor does what the outcome makes of the record
   acted : (c : Caller) (o : Outcome) (l : List ℕ) → stepped_of (answered c o (seen d l)) ≡ stepped_of (answered c o (alone d))
-  acted c o l = acted-alike 0 c o.replies o.bytes o.transfer d l o.change
+  acted c o l = acted-alike 0 c o.reply o.transfer d l o.change
 
   requested-alike : (c : Caller) (bytes : List ℕ) → stepped_of (requested c bytes (seen d j)) ≡ stepped_of (requested c bytes (seen d k))
   requested-alike c bytes =
