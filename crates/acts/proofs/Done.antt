@@ -5,6 +5,8 @@ use mathlib.Core.List.{List, [], ◌∷◌}
 use Prim.Native.Nat.{ℕ}
 use lib.Dec.{eqb}
 use lib.ListN.{get_or}
+use Rattle.acts.specs.declared.Act.TheVariants.{Stay, Operate, Enter, Reset, Communicate}
+use Rattle.acts.specs.Acts.{commanding, requested, by_rule, act_of, does, comes_to}
 use Rattle.requests.specs.declared.Rule.{Rule}
 use Rattle.requests.specs.declared.Rule.TheVariants.{Wrong, Nothing, Sync, Request, Network as Commanded}
 use Rattle.requests.specs.Frames.{rule_of}
@@ -21,17 +23,16 @@ use Rattle.rules.specs.Network.{communicating, on_network_command, on_network}
 use Rattle.rules.specs.Results.{Result, accepted, ignored, refused}
 use Rattle.rules.specs.State.{State, stopped, operational, pre_operational, no_counts, with_network, last_set}
 use Rattle.rules.specs.Time.{on_sync}
-use Rattle.acts.specs.Acts.{plain, commanding, requested, by_rule, act_of, does}
 
 module _ (bytes : List ℕ) (size : ℕ) (u : State) where
   abbrev done : Rule → Result
-  done k = does (by_rule bytes k) u
+  done k = comes_to (by_rule bytes k) u
 
   -- by the tests in their order
   commands : (start stop back reset again : Bool)
       → cond start (ignored (with_network operational no_counts u)) (cond stop (ignored (with_network stopped u.pdo u)) (cond back (ignored (with_network pre_operational u.pdo u))
       (cond reset (Network.start (last_set u) u.identity u.saves u.lss.node u.journal) (cond again (accepted (communicating u) (boot_up_frame (last_set u) ∷ [])) (ignored u)))))
-      ≡ does (cond start (plain 4 0 0 0 bytes) (cond stop (plain 5 0 0 stopped bytes) (cond back (plain 5 0 0 pre_operational bytes) (cond reset (plain 6 0 0 0 bytes) (cond again (plain 7 0 0 0 bytes) (plain 0 0 0 0 bytes)))))) u
+      ≡ does (cond start Operate (cond stop (Enter stopped) (cond back (Enter pre_operational) (cond reset Reset (cond again Communicate Stay))))) u
   commands true stop back reset again = refl
   commands false true back reset again = refl
   commands false false true reset again = refl
@@ -39,7 +40,7 @@ module _ (bytes : List ℕ) (size : ℕ) (u : State) where
   commands false false false false true = refl
   commands false false false false false = refl
 
-  commanded : (command : ℕ) → on_network_command command u ≡ does (commanding command bytes) u
+  commanded : (command : ℕ) → on_network_command command u ≡ does (commanding command) u
   unfolding on_network_command
   commanded command = commands (eqb command 0x01) (eqb command 0x02) (eqb command 0x80) (eqb command 0x81) (eqb command 0x82)
 
@@ -79,7 +80,7 @@ module _ (bytes : List ℕ) (size : ℕ) (u : State) where
       (eqb size 8) (eqb f.identifier (request_at (Client One) u.node)) (eqb f.identifier (request_at (Client Two) u.node))
       (eqb f.identifier (request_at Master u.node)) (get_or bytes 0 0)
 
-  pub done_as : (e : Event) → on_event e bytes size u ≡ does (act_of e bytes size u.node) u
+  pub done_as : (e : Event) → on_event e bytes size u ≡ comes_to (act_of e bytes size u.node) u
   done_as (Received f) = named f
   done_as (Tick ms) = refl
   done_as (Measured a m) = refl

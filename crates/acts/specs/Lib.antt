@@ -1,2 +1,1 @@
 pub mod Acts
-pub mod Asked

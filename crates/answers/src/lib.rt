@@ -1,13 +1,17 @@
 // The answer to an event or a power-on: the refusal, and the frames that are sent.
 #![tactic(auto)]
 
+pub mod refusal;
+
 ghost use Rattle.std.specs.Prelude.{◌≡◌, [], ◌∷◌, ◌++◌};
 ghost use Rattle.rules.specs.Frames;
 ghost use Rattle.rules.specs.Frames.{pdo_frame, reply_frames};
 ghost use Rattle.rules.specs.Network;
 ghost use Rattle.rules.specs.Time.{when_due};
 ghost use Rattle.answers.specs.Answers.{answering};
+ghost use Rattle.answers.specs.Refusals.{refusal_number};
 
+use crate::refusal::Refusal;
 use angle::Axes;
 use rules::events::Frame;
 use rules::objects::PdoNumber;
@@ -36,6 +40,12 @@ impl Answer {
             count: 0,
             frames: [frames::none(), frames::none()],
         }
+    }
+
+    pub fn refused(refusal: Refusal) -> Self
+        ensures { result ≡ answering (refusal_number refusal) [] }
+    {
+        Answer::silent(refusal.into())
     }
 
     pub fn one(first: Frame) -> Self

@@ -2,4 +2,3 @@ pub mod Happenings
 pub mod Lent
 pub mod Told
 pub mod Traced
-pub mod Acts

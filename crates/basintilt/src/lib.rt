@@ -1,18 +1,19 @@
 // What the recorder's C firmware calls: power-on, one event on its lent device record, the block query and the origin query.
 #![tactic(auto)]
 
-mod lent;
 pub mod origin;
 
 ghost use Rattle.std.specs.Prelude.{◌≡◌, cond, leb};
+ghost use Rattle.device.specs.Decided.{decided};
 ghost use Rattle.device.specs.Promise.{PoweredOn};
-ghost use Rattle.basintilt.specs.Acts.{Decided};
-ghost use Rattle.basintilt.specs.Happenings.{event_of};
+ghost use Rattle.device.specs.Seen.{alone};
+ghost use Rattle.basintilt.specs.Happenings.{event_of, length_in};
 ghost use Rattle.basintilt.specs.Lent.{Lent};
 ghost use Rattle.basintilt.specs.Told.{Told};
 
 use acts::Act;
 use answers::Answer;
+use answers::refusal::Refusal;
 use device::{Device, Stepped};
 use rules::events::{Event, FrameHead};
 use rules::journal::Judged;
@@ -63,17 +64,12 @@ fn bytes_in(kind: u8, length: u8) -> u8
 }
 
 // What a happening comes to. The record is looked at first, so that nothing else is in the way of its tests.
-fn decided(device: Device, journal_length: usize, happening: Happening) -> Act
-    ensures { Decided device journal_length happening result }
+fn decided(device: &Device, journal_length: usize, happening: Happening) -> Result<Act, Refusal>
+    ensures { result ≡ decided journal_length (event_of happening) happening.bytes (length_in happening) (alone device.now) }
 {
-    let bytes = happening.bytes;
-    let refusal = device.refusal(journal_length);
-    if refusal != 0 {
-        return Act::stay(refusal, bytes);
-    }
-    let event = event_of(happening);
+    device.check(journal_length)?;
     let length = bytes_in(happening.kind, happening.length);
-    acts::of(event, bytes, length, device.node)
+    acts::of(event_of(happening), happening.bytes, length, device.node)
 }
 
 // The recorder lends its one device record and its journal, and finds them updated.
@@ -85,9 +81,10 @@ pub extern "C" fn basintilt_event(
 ) -> Answer
     ensures { Lent device.old journal.old happening result device.new journal.new }
 {
-    let was = *device;
-    let act = decided(was, journal.len(), happening);
-    lent::performed(device, journal, act)
+    match decided(device, journal.len(), happening) {
+        Ok(act) => device.perform(journal, act),
+        Err(refusal) => Answer::refused(refusal),
+    }
 }
 
 // The record comes back by value; the journal is only read.

@@ -1,22 +1,22 @@
--- An outcome acted on the record: what it does to the record has nothing to do with the journal, and none but a save, a load or a store touches that.
+-- An outcome acted on the record: what it does to the record has nothing to do with the journal.
 use mathlib.Core.Path.{◌≡◌, refl}
-use Rattle.std.specs.Prelude.{Option}
 use mathlib.Core.List.{List}
 use Prim.Native.Nat.{ℕ}
-use Rattle.acts.specs.Asked.{step_for}
+use Rattle.std.specs.Prelude.{Option}
 use Rattle.rules.specs.declared.parts.Transfer.{Transfer}
 use Rattle.rules.specs.declared.requests.Caller.{Caller}
 use Rattle.rules.specs.declared.requests.Change.{Change}
 use Rattle.rules.specs.declared.requests.Change.TheVariants.{Keep, Put, Zero, Empty, Configure, Fill}
 use Rattle.rules.specs.declared.requests.Outcome.{Outcome}
 use Rattle.rules.specs.Events.{answered}
-use Rattle.device.proofs.Beside.{Beside}
+use Rattle.rules.specs.Service.{state_after}
 use Rattle.device.specs.declared.Device.{Device}
 use Rattle.device.specs.Answers.{stepped_of}
-use Rattle.device.specs.Seen.{seen, alone}
+use Rattle.device.specs.Replied.{changed_by, journal_by, with_transfer}
+use Rattle.device.specs.Seen.{seen, alone, held}
 
 -- by the change
-module _ (step : ℕ) (c : Caller) (reply : Option (List ℕ)) (t : Transfer) (d : Device) (j : List ℕ) where
+module _ (c : Caller) (reply : Option (List ℕ)) (t : Transfer) (d : Device) (j : List ℕ) where
   abbrev by : Change → Outcome
   by e = record { reply = reply; transfer = t; change = e }
 
@@ -29,14 +29,11 @@ module _ (step : ℕ) (c : Caller) (reply : Option (List ℕ)) (t : Transfer) (d
   acted-alike (Configure l) = refl
   acted-alike (Fill b) = refl
 
-  journal-kept : (e : Change) → (step_for e ≡ 4 → ⊥) → (answered c (by e) (seen d j)).state.journal ≡ j
-  journal-kept Keep p = refl
-  journal-kept (Put s v) p = refl
-  journal-kept (Zero a preset offset) p = refl
-  journal-kept Empty p = refl
-  journal-kept (Configure l) p = refl
-  journal-kept (Fill b) p = absurd (p refl)
-
-  -- a step other than a fill
-  pub acted-beside : (e : Change) → (step_for e ≡ 4 → ⊥) → Beside j (answered c (by e) (seen d j)) (answered c (by e) (alone d))
-  acted-beside e p = record { same = acted-alike e; kept = journal-kept e p }
+  -- the record after the change and the reply, and the journal
+  pub acted-on : (e : Change) → let u = state_after c (by e) (seen d j) in (with_transfer c t (changed_by e d) ≡ held u) × (journal_by e d j ≡ u.journal)
+  acted-on Keep = (refl, refl)
+  acted-on (Put s v) = (refl, refl)
+  acted-on (Zero a preset offset) = (refl, refl)
+  acted-on Empty = (refl, refl)
+  acted-on (Configure l) = (refl, refl)
+  acted-on (Fill b) = (refl, refl)

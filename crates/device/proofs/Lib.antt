@@ -2,5 +2,4 @@ pub mod Acted
 pub mod Asked
 pub mod Beside
 pub mod Refused
-pub mod Steps
 pub mod Views

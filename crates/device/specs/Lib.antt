@@ -1,6 +1,6 @@
 pub mod Seen
 pub mod Answers
+pub mod Decided
 pub mod Promise
-pub mod Ready
 pub mod Replied
 pub mod Views

@@ -44,6 +44,6 @@ alone d = seen d []
 abbrev pub Ranged : Device → Type 0
 Ranged d = in_range (alone d) ≡ true
 
--- the refusal that the record, or the length of its journal, brings to any event; 0 where it is none
-abbrev pub refusal_of : ℕ → State → ℕ
-refusal_of size u = cond (in_range u) (cond (eqb size (512 * u.saves.blocks)) 0 1) 3
+-- a record that is not refused beside a journal of a length
+abbrev pub Fit : Device → ℕ → Type 0
+Fit d size = Ranged d × (size ≡ 512 * d.saves.blocks)

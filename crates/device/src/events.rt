@@ -1,53 +1,61 @@
-// One event: refused by number, or what it comes to, done.
+// One event: refused, or what it comes to, done.
 ghost use Rattle.std.specs.Prelude.{◌≡◌, length as length_of};
 ghost use Rattle.acts.specs.Acts.{does};
-ghost use Rattle.device.specs.Answers.{stepped_of};
+ghost use Rattle.device.specs.Decided.{decided};
+ghost use Rattle.device.specs.Answers.{DoneBeside};
 ghost use Rattle.device.specs.Promise.{Answered};
-ghost use Rattle.device.specs.Ready.{Requesting};
-ghost use Rattle.device.specs.Seen.{seen};
+ghost use Rattle.device.specs.Seen.{seen, alone, Fit};
 
 use crate::{Device, Stepped};
 use acts::Act;
-use acts::asked::Asked;
+use answers::Answer;
+use answers::refusal::Refusal;
 use rules::events::Event;
 
 impl Device {
-    fn request(self, journal: &mut [u8], act: Act) -> Stepped
-        requires { Requesting self (length_of journal.old) act }
-        ensures { (result ≡ stepped_of (does act (seen self journal.old)))
-            × (journal.new ≡ (does act (seen self journal.old)).state.journal) }
+    // The lent journal is written by a save, a load or a store alone.
+    pub fn perform(&mut self, journal: &mut [u8], act: Act) -> Answer
+        requires { Fit self.old (length_of journal.old) }
+        ensures { DoneBeside (does act (seen self.old journal.old)) result self.new journal.new }
     {
-        let asked = self.ask(act);
-        let step = asked.step;
-        match step {
-            Asked::KEEP => self.keep(asked),
-            Asked::SET => self.set(asked),
-            Asked::EMPTY => self.empty(asked),
-            Asked::CONFIGURE => self.configure(asked),
-            _ => self.fill(journal, asked),
+        match act {
+            Act::Stay => Answer::silent(0),
+            Act::Tick(ms) => self.tick(ms),
+            Act::Sync => self.sync(),
+            Act::Measure(axis, m) => self.measure(axis, m),
+            Act::Operate => self.operate(),
+            Act::Enter(network) => self.enter(network),
+            Act::Reset => self.reset(),
+            Act::Communicate => self.communicate(),
+            Act::Request(caller, request) => self.request(journal, caller, request),
         }
     }
 
-    // The record goes in by value and comes back, with the frames; the lent journal is written by a save, a load or a store alone.
-    pub fn event(self, journal: &mut [u8], event: Event, bytes: [u8; 8], length: u8) -> Stepped
+    // What an event comes to. The record is looked at first.
+    fn decide(
+        &self,
+        journal_length: usize,
+        event: Event,
+        bytes: [u8; 8],
+        length: u8,
+    ) -> Result<Act, Refusal>
+        ensures { result ≡ decided journal_length event bytes length (alone self.now) }
+    {
+        self.check(journal_length)?;
+        acts::of(event, bytes, length, self.node)
+    }
+
+    // The record goes in by value and comes back, with the frames.
+    pub fn event(mut self, journal: &mut [u8], event: Event, bytes: [u8; 8], length: u8) -> Stepped
         ensures { Answered self journal.old event bytes length result journal.new }
     {
-        let refusal = self.refusal(journal.len());
-        if refusal != 0 {
-            return self.quiet(refusal);
-        }
-        let act = acts::of(event, bytes, length, self.node);
-        let step = act.step;
-        match step {
-            Act::STAY => self.stay(act),
-            Act::TICK => self.tick(act),
-            Act::SYNC => self.sync(act),
-            Act::READING => self.measure(act),
-            Act::OPERATE => self.operate(act),
-            Act::ENTER => self.enter(act),
-            Act::RESET => self.reset(act),
-            Act::COMMUNICATE => self.communicate(act),
-            _ => self.request(journal, act),
+        let answer = match self.decide(journal.len(), event, bytes, length) {
+            Ok(act) => self.perform(journal, act),
+            Err(refusal) => Answer::refused(refusal),
+        };
+        Stepped {
+            device: self,
+            answer,
         }
     }
 }

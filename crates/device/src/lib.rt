@@ -7,14 +7,6 @@ mod range;
 mod serving;
 mod time;
 
-ghost use Rattle.std.specs.Prelude.{◌≡◌};
-ghost use Rattle.acts.specs.Acts.{does};
-ghost use Rattle.rules.specs.Results.{refused};
-ghost use Rattle.device.specs.Answers.{stepped_of};
-ghost use Rattle.device.specs.Ready.{Ready};
-ghost use Rattle.device.specs.Seen.{alone};
-
-use acts::Act;
 use answers::Answer;
 use rules::errors::ErrorList;
 use rules::parts::{Identity, Lss, PdoCounts, Reading, Saves, Transfer};
@@ -44,23 +36,4 @@ pub struct Device {
 pub struct Stepped {
     pub device: Device,
     pub answer: Answer,
-}
-
-impl Device {
-    // Nothing is sent, and the record stays.
-    pub(crate) fn quiet(self, refusal: u16) -> Stepped
-        ensures { result ≡ stepped_of (refused refusal (alone self)) }
-    {
-        Stepped {
-            device: self,
-            answer: Answer::silent(refusal),
-        }
-    }
-
-    pub fn stay(self, act: Act) -> Stepped
-        requires { Ready 0 self act }
-        ensures { result ≡ stepped_of (does act (alone self)) }
-    {
-        self.quiet(act.refusal)
-    }
 }

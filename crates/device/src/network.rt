@@ -1,14 +1,13 @@
 // NMT commands and resets.
 ghost use Rattle.std.specs.Prelude.{◌≡◌, cond, [], eqb};
 ghost use Rattle.acts.specs.Acts.{does};
+ghost use Rattle.acts.specs.declared.Act.TheVariants.{Operate, Enter, Reset, Communicate};
 ghost use Rattle.rules.specs.Errors.{no_errors, entered};
 ghost use Rattle.rules.specs.Network;
-ghost use Rattle.device.specs.Answers.{stepped_of};
-ghost use Rattle.device.specs.Ready.{Ready};
+ghost use Rattle.device.specs.Answers.{stepped_of, Done};
 ghost use Rattle.device.specs.Seen.{alone};
 
 use crate::{Device, Stepped};
-use acts::Act;
 use answers::Answer;
 use rules::errors::ErrorList;
 use rules::parts::{Identity, Saves};
@@ -29,10 +28,10 @@ fn first_errors(spoiled: u8) -> ErrorList
 
 impl Device {
     // As power-on and 81h leave it, with a number set or 0.
+    #[tactic(auto, unfolding(rules::specs::Network::start))]
     pub fn start(node: u8, identity: Identity, saves: Saves, set: u8) -> Stepped
         ensures { result ≡ stepped_of (Network.start node identity saves set []) }
     {
-        let stored = saves.stored;
         let device = Device {
             identity,
             x: readings::no_reading(),
@@ -40,7 +39,7 @@ impl Device {
             heartbeat: 0,
             pdo: timers::no_counts(),
             saves,
-            running: stored,
+            running: saves.stored,
             errors: first_errors(saves.spoiled),
             lss: lss::unselected(set),
             node,
@@ -54,59 +53,50 @@ impl Device {
     }
 
     // 01h. Start zeroes the PDO's counts.
-    pub fn operate(mut self, act: Act) -> Stepped
-        requires { Ready 4 self act }
-        ensures { result ≡ stepped_of (does act (alone self)) }
+    pub(crate) fn operate(&mut self) -> Answer
+        ensures { Done (does Operate (alone self.old)) result self.new }
     {
         self.network = states::OPERATIONAL;
         self.pdo = timers::no_counts();
-        self.quiet(0)
+        Answer::silent(0)
     }
 
     // 02h and 80h.
-    pub fn enter(mut self, act: Act) -> Stepped
-        requires { Ready 5 self act }
-        ensures { result ≡ stepped_of (does act (alone self)) }
+    pub(crate) fn enter(&mut self, network: u8) -> Answer
+        ensures { Done (does (Enter network) (alone self.old)) result self.new }
     {
-        self.network = act.network;
-        self.quiet(0)
+        self.network = network;
+        Answer::silent(0)
     }
 
     // 81h: the number set takes effect.
-    pub fn reset(self, act: Act) -> Stepped
-        requires { Ready 6 self act }
-        ensures { result ≡ stepped_of (does act (alone self)) }
+    #[tactic(auto, unfolding(rules::specs::Network::start))]
+    pub(crate) fn reset(&mut self) -> Answer
+        ensures { Done (does Reset (alone self.old)) result self.new }
     {
         let set = self.lss.node;
-        Device::start(
+        let Stepped { device, answer } = Device::start(
             lss::node_else(set, self.node),
             self.identity,
             self.saves,
             set,
-        )
+        );
+        *self = device;
+        answer
     }
 
     // 82h: 1017 and 1800 from the stored settings, and the number set.
-    pub fn communicate(mut self, act: Act) -> Stepped
-        requires { Ready 7 self act }
-        ensures { result ≡ stepped_of (does act (alone self)) }
+    pub(crate) fn communicate(&mut self) -> Answer
+        ensures { Done (does Communicate (alone self.old)) result self.new }
     {
-        let pdo = self.saves.stored.pdo;
-        let mut running = self.running;
-        running.heartbeat = self.saves.stored.heartbeat;
-        running.pdo = pdo;
-        self.running = running;
-        let set = self.lss.node;
-        self.node = lss::node_else(set, self.node);
-        self.lss = lss::unselected(set);
+        self.running.heartbeat = self.saves.stored.heartbeat;
+        self.running.pdo = self.saves.stored.pdo;
+        self.node = lss::node_else(self.lss.node, self.node);
+        self.lss = lss::unselected(self.lss.node);
         self.network = states::PRE_OPERATIONAL;
         self.heartbeat = 0;
         self.pdo = timers::no_counts();
-        let transfers = service::no_transfers();
-        self.transfers = transfers;
-        Stepped {
-            device: self,
-            answer: Answer::one(frames::boot_up(self.node)),
-        }
+        self.transfers = service::no_transfers();
+        Answer::one(frames::boot_up(self.node))
     }
 }

@@ -1,20 +1,20 @@
 // Ticks, SYNCs and readings.
 ghost use Rattle.std.specs.Prelude.{◌≡◌};
 ghost use Rattle.acts.specs.Acts.{does};
-ghost use Rattle.device.specs.Answers.{stepped_of};
-ghost use Rattle.device.specs.Ready.{Ready};
-ghost use Rattle.device.specs.Seen.{alone};
+ghost use Rattle.acts.specs.declared.Act.TheVariants.{Tick, Sync, Measure};
+ghost use Rattle.device.specs.Answers.{Done};
+ghost use Rattle.device.specs.Seen.{alone, Ranged};
 
-use crate::{Device, Stepped};
-use acts::Act;
+use crate::Device;
+use answers::Answer;
 use readings::Readings;
-use rules::objects::PdoNumber;
+use rules::objects::{Axis, PdoNumber};
 use timers::{Pdo, Timer};
 
 impl Device {
     // The PDO, as its counts go.
-    fn timed_pdo(self) -> Pdo
-        ensures { result ≡ record { network = self.network; settings = self.running.pdo; counts = self.pdo } }
+    fn timed_pdo(&self) -> Pdo
+        ensures { result ≡ record { network = self.now.network; settings = self.now.running.pdo; counts = self.now.pdo } }
     {
         Pdo {
             network: self.network,
@@ -23,59 +23,52 @@ impl Device {
         }
     }
 
-    pub fn tick(mut self, act: Act) -> Stepped
-        requires { Ready 1 self act }
-        ensures { result ≡ stepped_of (does act (alone self)) }
+    #[tactic(auto, unfolding(rules::specs::Time::on_tick))]
+    pub(crate) fn tick(&mut self, ms: u16) -> Answer
+        requires { Ranged self.old }
+        ensures { Done (does (Tick ms) (alone self.old)) result self.new }
     {
-        let ms = act.ms;
         let heartbeat = Timer {
             runs: true,
             period: self.running.heartbeat,
             elapsed: self.heartbeat,
         };
         let pdo = self.timed_pdo();
-        let answer = answers::timed(
+        let axes = self.axes();
+        self.heartbeat = heartbeat.after(ms);
+        self.pdo = pdo.ticked(ms);
+        answers::timed(
             heartbeat.reaches(ms),
             pdo.tick_sends(ms),
             PdoNumber::First,
             self.node,
             self.network,
-            self.axes(),
-        );
-        self.heartbeat = heartbeat.after(ms);
-        self.pdo = pdo.ticked(ms);
-        Stepped {
-            device: self,
-            answer,
-        }
+            axes,
+        )
     }
 
-    pub fn sync(mut self, act: Act) -> Stepped
-        requires { Ready 2 self act }
-        ensures { result ≡ stepped_of (does act (alone self)) }
+    #[tactic(auto, unfolding(rules::specs::Time::on_sync))]
+    pub(crate) fn sync(&mut self) -> Answer
+        requires { Ranged self.old }
+        ensures { Done (does Sync (alone self.old)) result self.new }
     {
         let pdo = self.timed_pdo();
-        let answer = answers::timed(
+        let axes = self.axes();
+        self.pdo = pdo.synced();
+        answers::timed(
             false,
             pdo.sync_sends(),
             PdoNumber::First,
             self.node,
             self.network,
-            self.axes(),
-        );
-        self.pdo = pdo.synced();
-        Stepped {
-            device: self,
-            answer,
-        }
+            axes,
+        )
     }
 
-    pub fn measure(mut self, act: Act) -> Stepped
-        requires { Ready 3 self act }
-        ensures { result ≡ stepped_of (does act (alone self)) }
+    #[tactic(auto, unfolding(rules::specs::Readings::on_reading))]
+    pub(crate) fn measure(&mut self, axis: Axis, m: i32) -> Answer
+        ensures { Done (does (Measure axis m) (alone self.old)) result self.new }
     {
-        let axis = act.axis;
-        let m = act.m;
         let spoiled = self.saves.spoiled;
         let old = Readings {
             x: self.x,
@@ -86,15 +79,12 @@ impl Device {
         self.errors = readings::listed(fault, self.errors);
         self.x = new.x;
         self.y = new.y;
-        Stepped {
-            device: self,
-            answer: readings::alarm(
-                self.node,
-                self.network,
-                fault,
-                old.register(spoiled),
-                new.register(spoiled),
-            ),
-        }
+        readings::alarm(
+            self.node,
+            self.network,
+            fault,
+            old.register(spoiled),
+            new.register(spoiled),
+        )
     }
 }

@@ -2,6 +2,7 @@
 #![tactic(auto)]
 
 ghost use Rattle.std.specs.Prelude.{◌≡◌, []};
+ghost use Rattle.answers.specs.Refusals.{refusal_number};
 ghost use Rattle.device.specs.Answers.{stepped_of};
 ghost use Rattle.device.specs.Promise.{PoweredOn};
 ghost use Rattle.device.specs.Seen.{held};
@@ -9,14 +10,11 @@ ghost use Rattle.rules.specs.PowerOn.{zero_settings, zero_state};
 ghost use Rattle.rules.specs.Results.{refused};
 
 use answers::Answer;
+use answers::refusal::Refusal;
 use device::{Device, Stepped};
 use rules::errors::ErrorList;
 use rules::parts::{Identity, Saves};
 use rules::settings::{AxisSettings, PdoSettings, Settings};
-
-const WRONG_LENGTH: u16 = 1;
-
-const WRONG_NODE: u16 = 4;
 
 fn zero_settings() -> Settings
     ensures { result ≡ zero_settings }
@@ -69,12 +67,12 @@ pub fn zero_record() -> Device
 }
 
 // The all-zero record, and no frame.
-fn refuse(refusal: u16) -> Stepped
-    ensures { result ≡ stepped_of (refused refusal (zero_state [])) }
+fn refuse(refusal: Refusal) -> Stepped
+    ensures { result ≡ stepped_of (refused (refusal_number refusal) (zero_state [])) }
 {
     Stepped {
         device: zero_record(),
-        answer: Answer::silent(refusal),
+        answer: Answer::refused(refusal),
     }
 }
 
@@ -82,10 +80,10 @@ pub fn power_on(node: u32, identity: Identity, journal: &[u8]) -> Stepped
     ensures { PoweredOn node identity journal.now result }
 {
     if !ranges::node_ok(node) {
-        return refuse(WRONG_NODE);
+        return refuse(Refusal::WrongNode);
     }
     if !journal::length_ok(journal) {
-        return refuse(WRONG_LENGTH);
+        return refuse(Refusal::WrongLength);
     }
     let saves = journal::saves_in(journal);
     Device::start(lss::node_else(saves.node, node as u8), identity, saves, 0)

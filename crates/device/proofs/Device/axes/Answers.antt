@@ -7,6 +7,6 @@ use Rattle.device.proofs.Device.axes.Goals as goal
 
 pub invariant_of-result : goal.invariant_of-result
 invariant_of-result c =
-    let d = c.args.self in
+    let d = c.args.self.now in
     let p = parts _ c.requires in
     record { x_inside = axis-inside d.x p.x; y_inside = axis-inside d.y p.y; within = setting_in d.running p.running Resolution }

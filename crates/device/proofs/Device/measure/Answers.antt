@@ -11,32 +11,15 @@ use Rattle.readings.specs.Faults.{fault_of, listed_of}
 use Rattle.rules.specs.declared.errors.ErrorList.{ErrorList}
 use Rattle.rules.specs.declared.objects.Axis.{Axis}
 use Rattle.rules.specs.declared.objects.Axis.TheVariants.{X, Y}
-use Rattle.rules.specs.declared.parts.Reading.{Reading}
 use Rattle.rules.specs.Errors.{entered, register}
 use Rattle.rules.specs.Frames.{emergency_frame}
 use Rattle.rules.specs.Readings.{on_reading, fails}
 use Rattle.device.specs.declared.Device.{Device}
 use Rattle.device.specs.declared.Stepped.{Stepped}
+use Rattle.device.proofs.Beside.{apart}
 use Rattle.device.specs.Answers.{stepped_of}
 use Rattle.device.specs.Seen.{alone}
 use Rattle.device.proofs.Device.measure.Goals as goal
-
--- the record with a list and both readings another
-abbrev measured_as : Device → ErrorList → Reading → Reading → Device
-measured_as d errors x y = record {
-  identity = d.identity;
-  x = x;
-  y = y;
-  heartbeat = d.heartbeat;
-  pdo = d.pdo;
-  saves = d.saves;
-  running = d.running;
-  errors = errors;
-  lss = d.lss;
-  node = d.node;
-  network = d.network;
-  transfers = d.transfers;
-}
 
 -- the list and the frames, by whether the reading is a fault
 listed_when : (b : Bool) (code : ℕ) (l : ErrorList) → listed_of (cond b (Some code) None) l ≡ cond b (entered code l) l
@@ -57,7 +40,7 @@ together : (d : Device) (a : Axis) (m : ℤ) (new : Readings) (before now : ℕ)
     → before ≡ register d.saves.spoiled d.x.state d.y.state
     → now ≡ register d.saves.spoiled new.x.state new.y.state
     → sent ≡ answering 0 (alarm_of d.node d.network fault before now)
-    → ◌≡◌ {A = Stepped} (record { device = measured_as d list new.x new.y; answer = sent }) (stepped_of (on_reading a m (alone d)))
+    → ◌≡◌ {A = Stepped} (record { device = record d { errors = list; x = new.x; y = new.y }; answer = sent }) (stepped_of (on_reading a m (alone d)))
 unfolding on_reading
 together d X m new before now fault list sent e₁ e₂ e₃ e₄ e₅ e₆ =
     rw (e₆, e₅, e₄, e₃, e₂, e₁, listed_when (fails m d.x) 0xFF01 d.errors, sent_when (fails m d.x) d.node 0xFF01 _ _)
@@ -66,9 +49,8 @@ together d Y m new before now fault list sent e₁ e₂ e₃ e₄ e₅ e₆ =
 
 pub returns : goal.returns
 returns c =
-    let read = ok w32 c.args.act.m (omega arith) in
-    rw c.requires.0
-    (together _ _ _ _ _ _ _ _ _
+    let read = ok w32 c.args.m (omega arith) in
+    apart (on_reading c.args.axis c.args.m (alone c.args.self.now)) (together _ _ _ _ _ _ _ _ _
     (simp read at c.after-new.ensures)
     (simp read at c.fault-fault.ensures)
     c.listed-self.ensures

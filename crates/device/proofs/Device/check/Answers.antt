@@ -1,19 +1,21 @@
--- `Device::refusal` meets its contract: a part out of its range puts the record out, and where all are in the length decides.
-use Rattle.std.proofs.Common.{◌≡◌, ◌&&◌, ℕ, Bool, true, false, sym, ◌∙◌, eq-eqb}
+-- `Device::check` meets its contract: a part out of its range puts the record out, and where all are in the length decides.
+use Rattle.std.proofs.Common.{◌≡◌, ◌&&◌, ℕ, Bool, true, false, Err, sym, ◌∙◌, eq-eqb}
 use borrow.Author.Tests.{ne_eqb}
 use Rattle.laws.proofs.Bools.{no, both, left, right, not-true}
+use Rattle.answers.specs.declared.refusal.Refusal.TheVariants.{OutOfRange}
 use Rattle.rules.specs.Ranges.{in_range}
 use Rattle.rules.specs.State.{State}
 use Rattle.rules.proofs.InRange.{InRange, parts, together}
-use Rattle.device.specs.Seen.{alone, refusal_of}
-use Rattle.device.proofs.Device.refusal.Goals as goal
-use Rattle.device.proofs.Device.refusal.Goals.{After-counts_ok}
+use Rattle.device.specs.Decided.{checked}
+use Rattle.device.specs.Seen.{alone}
+use Rattle.device.proofs.Device.check.Goals as goal
+use Rattle.device.proofs.Device.check.Goals.{After-counts_ok}
 
-out : (n : ℕ) (u : State) {b : Bool} → b ≡ false → (InRange u → b ≡ true) → 3 ≡ refusal_of n u
+out : (n : ℕ) (u : State) {b : Bool} → b ≡ false → (InRange u → b ≡ true) → Err OutOfRange ≡ checked n u
 out n u f t = rw (not-true (in_range u) (λ e. no (sym f ∙ t (parts u e))))
 
 -- behind the last test of a part
-inside : (c : After-counts_ok) → c.elapsed_ok.result && c.counts_ok.result ≡ true → in_range (alone c.args.self) ≡ true
+inside : (c : After-counts_ok) → c.elapsed_ok.result && c.counts_ok.result ≡ true → in_range (alone c.args.self.now) ≡ true
 inside c counted =
     let x = c.axis_ok in
     let y = c.axis_ok-2 in
@@ -63,8 +65,8 @@ pub returns-then-not-elapsed_ok-counts_ok : goal.returns-then-not-elapsed_ok-cou
 returns-then-not-elapsed_ok-counts_ok c =
     out _ _ c.if-not-elapsed_ok-counts_ok.true (λ p. both (c.elapsed_ok.ensures ∙ p.heartbeat) (c.counts_ok.ensures ∙ p.pdo))
 
-pub returns-then-length-self : goal.returns-then-length-self
-returns-then-length-self c = simp (inside (goal.at.returns-then-length-self c).After-counts_ok c.if-not-elapsed_ok-counts_ok.false, ne_eqb _ _ c.if-length-self.true)
+pub returns-then-journal_length-self : goal.returns-then-journal_length-self
+returns-then-journal_length-self c = simp (inside (goal.at.returns-then-journal_length-self c).After-counts_ok c.if-not-elapsed_ok-counts_ok.false, ne_eqb _ _ c.if-journal_length-self.true)
 
 pub returns : goal.returns
-returns c = simp (inside (goal.at.returns c).After-counts_ok c.if-not-elapsed_ok-counts_ok.false, eq-eqb _ _ c.if-length-self.false)
+returns c = simp (inside (goal.at.returns c).After-counts_ok c.if-not-elapsed_ok-counts_ok.false, eq-eqb _ _ c.if-journal_length-self.false)
