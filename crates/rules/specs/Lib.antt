@@ -50,6 +50,7 @@ pub mod Journal
 pub mod Acknowledged
 -- 02, item 3: who set this zero?
 pub mod Origins
+pub mod OriginTexts
 pub mod Brings
 -- What a request reads and writes: `crates/interleaving/specs/ReadsWrites.antt`
 -- Sample values
