@@ -1,4 +1,4 @@
-// The words that a program is run with; the first is the program's own name.
+// The words that a program is run with; word 0 is the program's own name.
 ghost use Rattle.std.specs.Prelude.{IfSome};
 ghost use Rattle.journal_files.specs.Counts.{Counts};
 
