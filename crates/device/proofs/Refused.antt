@@ -6,7 +6,7 @@ use borrow.Author.Tests.{eqb-true}
 use Prim.Native.Nat.{ℕ, ◌*◌}
 use lib.Dec.{eqb}
 use lib.ListN.{length as length_of}
-use Rattle.std.specs.Prelude.{Result, Ok, Err, ⊤}
+use Rattle.std.specs.Prelude.{Result, Ok, Err}
 use Rattle.acts.proofs.Done.{done_as}
 use Rattle.acts.specs.declared.Act.{Act}
 use Rattle.acts.specs.Acts.{act_of, does, comes_to}

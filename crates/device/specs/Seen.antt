@@ -1,5 +1,5 @@
 -- The device record and a lent journal as the rules' state, and back.
-use Rattle.std.specs.Prelude.{◌≡◌, true, cond, List, [], ℕ, ◌*◌, eqb}
+use Rattle.std.specs.Prelude.{◌≡◌, true, List, [], ℕ, ◌*◌}
 use Rattle.rules.specs.Ranges.{in_range}
 use Rattle.rules.specs.State.{State}
 use Rattle.device.specs.declared.Device.{Device}

@@ -42,7 +42,7 @@ impl Device {
         if !ranges::errors_ok(self.errors) {
             return Err(Refusal::OutOfRange);
         }
-        if !(ranges::own_node_ok(self.node) & ranges::network_ok(self.network)) {
+        if !(ranges::node_ok(u32::from(self.node)) & ranges::network_ok(self.network)) {
             return Err(Refusal::OutOfRange);
         }
         if !(ranges::elapsed_ok(self.running.heartbeat, self.heartbeat)

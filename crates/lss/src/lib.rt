@@ -151,7 +151,7 @@ fn select(before: u8, same: bool, l: Lss) -> Outcome
 fn set_node(node: u8, mut l: Lss) -> Outcome
     ensures { result ≡ on_set_node node l }
 {
-    if ranges::own_node_ok(node) {
+    if ranges::node_ok(u32::from(node)) {
         l.node = node;
         return said(0x11, 0, Change::Configure(l));
     }

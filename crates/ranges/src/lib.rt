@@ -2,6 +2,7 @@
 #![tactic(auto)]
 
 ghost use Rattle.std.specs.Prelude.{◌≡◌};
+ghost use Rattle.std.specs.List.{list_all, enumerate_from};
 ghost use Rattle.rules.specs.declared.objects.Setting.TheVariants.{Resolution};
 ghost use Rattle.rules.specs.Settings.{within, in_table};
 ghost use Rattle.rules.specs.Ranges;
@@ -46,14 +47,7 @@ pub fn in_table(s: Settings) -> bool
 pub fn node_ok(node: u32) -> bool
     ensures { result ≡ node_ok node }
 {
-    (1 <= node) & (node <= (states::MOST_NODE as u32))
-}
-
-// The record's own node, in eight bits.
-pub fn own_node_ok(node: u8) -> bool
-    ensures { result ≡ node_ok node }
-{
-    node_ok(node as u32)
+    (1..=u32::from(states::MOST_NODE)).contains(&node)
 }
 
 // LSS: each of its numbers by itself.
@@ -68,16 +62,16 @@ pub fn lss_ok(l: Lss) -> bool
 pub fn network_ok(network: u8) -> bool
     ensures { result ≡ network_ok network }
 {
-    (network == states::STOPPED)
-        | (network == states::OPERATIONAL)
-        | (network == states::PRE_OPERATIONAL)
+    matches!(
+        network,
+        states::STOPPED | states::OPERATIONAL | states::PRE_OPERATIONAL
+    )
 }
 
 pub fn saves_ok(s: Saves) -> bool
     ensures { result ≡ saves_ok s }
 {
-    (1 <= s.blocks)
-        & (s.blocks <= Saves::MOST_BLOCKS)
+    (1..=Saves::MOST_BLOCKS).contains(&s.blocks)
         & (s.filled <= s.blocks)
         & (s.spoiled <= 1)
         & (s.node <= states::MOST_NODE)
@@ -85,35 +79,34 @@ pub fn saves_ok(s: Saves) -> bool
 }
 
 // The code at a place of a list: past the list's end it is 0.
-fn code_ok(length: u16, place: u16, code: u16) -> bool
+fn code_ok(length: u16, place: usize, code: u16) -> bool
     ensures { result ≡ code_ok length place code }
 {
-    if place < length {
-        (LEAST_CODE <= code) & (code <= MOST_CODE)
+    if place < usize::from(length) {
+        (LEAST_CODE..=MOST_CODE).contains(&code)
     } else {
         code == 0
     }
 }
 
-#[tactic(auto, unfolding(rules::specs::Ranges::errors_ok))]
+fn codes_ok(l: ErrorList) -> bool
+    ensures { result ≡ list_all (λ p. code_ok l.length p.0 p.1) (enumerate_from 0 l.codes) }
+{
+    l.codes
+        .iter()
+        .enumerate()
+        .all(|(place, code)| code_ok(l.length, place, *code))
+}
+
+// An empty list's first: most lists are.
+#[tactic(auto, unfolding(rules::specs::Ranges::errors_ok), using(crate::proofs::Codes::by_place))]
 pub fn errors_ok(l: ErrorList) -> bool
     ensures { result ≡ errors_ok l }
 {
-    let n = l.length;
-    let codes = l.codes;
-    if n == 0 {
-        return (codes[0] == 0)
-            & (codes[1] == 0)
-            & (codes[2] == 0)
-            & (codes[3] == 0)
-            & (codes[4] == 0);
+    if l.length == 0 {
+        return l.codes.iter().all(|code| *code == 0);
     }
-    (n <= ErrorList::MOST)
-        & code_ok(n, 0, codes[0])
-        & code_ok(n, 1, codes[1])
-        & code_ok(n, 2, codes[2])
-        & code_ok(n, 3, codes[3])
-        & code_ok(n, 4, codes[4])
+    (l.length <= ErrorList::MOST) & codes_ok(l)
 }
 
 pub fn elapsed_ok(period: u16, elapsed: u16) -> bool
@@ -152,13 +145,14 @@ fn transfer_ok(transfer: Transfer) -> bool
 pub fn transfers_ok(transfers: [Transfer; 2]) -> bool
     ensures { result ≡ transfers_ok transfers }
 {
-    transfer_ok(transfers[0]) & transfer_ok(transfers[1])
+    let [one, two] = transfers;
+    transfer_ok(one) & transfer_ok(two)
 }
 
 pub fn inside(m: i32) -> bool
     ensures { result ≡ Ranges.inside m }
 {
-    (-Reading::FARTHEST <= m) & (m <= Reading::FARTHEST)
+    (-Reading::FARTHEST..=Reading::FARTHEST).contains(&m)
 }
 
 #[tactic(auto, unfolding(rules::specs::Ranges::axis_ok))]

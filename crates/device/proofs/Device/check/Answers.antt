@@ -19,14 +19,15 @@ inside : (c : After-counts_ok) → c.elapsed_ok.result && c.counts_ok.result ≡
 inside c counted =
     let x = c.axis_ok in
     let y = c.axis_ok-2 in
-    let own = c.own_node_ok in
+    let own = c.node_ok in
+    let own-is = simp c.from.ensures at own.ensures in
     let network = c.network_ok in
     let elapsed = c.elapsed_ok in
     let counts = c.counts_ok in
     let axes = c.if-not-axis_ok.false in
-    let nodes = c.if-not-own_node_ok-network_ok.false in
+    let nodes = c.if-not-node_ok-network_ok.false in
     together _ (record {
-      node = sym own.ensures ∙ left own.result network.result nodes;
+      node = sym own-is ∙ left own.result network.result nodes;
       network = sym network.ensures ∙ right own.result network.result nodes;
       saves = sym c.if-not-saves_ok.ensures;
       running = sym c.if-not-in_table.ensures;
@@ -57,9 +58,10 @@ returns-then-not-axis_ok c = out _ _ c.if-not-axis_ok.true (λ p. both (c.axis_o
 pub returns-then-not-errors_ok : goal.returns-then-not-errors_ok
 returns-then-not-errors_ok c = out _ _ (sym c.if-not-errors_ok.ensures) (λ p. p.errors)
 
-pub returns-then-not-own_node_ok-network_ok : goal.returns-then-not-own_node_ok-network_ok
-returns-then-not-own_node_ok-network_ok c =
-    out _ _ c.if-not-own_node_ok-network_ok.true (λ p. both (c.own_node_ok.ensures ∙ p.node) (c.network_ok.ensures ∙ p.network))
+pub returns-then-not-node_ok-network_ok : goal.returns-then-not-node_ok-network_ok
+returns-then-not-node_ok-network_ok c =
+    let own-is = simp c.from.ensures at c.node_ok.ensures in
+    out _ _ c.if-not-node_ok-network_ok.true (λ p. both (own-is ∙ p.node) (c.network_ok.ensures ∙ p.network))
 
 pub returns-then-not-elapsed_ok-counts_ok : goal.returns-then-not-elapsed_ok-counts_ok
 returns-then-not-elapsed_ok-counts_ok c =
