@@ -32,20 +32,24 @@ pub struct Answer {
 
 impl Answer {
     // No frame is sent.
-    pub fn silent(refusal: u16) -> Self
-        ensures { result ≡ answering refusal [] }
+    pub fn silent() -> Self
+        ensures { result ≡ answering 0 [] }
     {
         Answer {
-            refusal,
+            refusal: 0,
             count: 0,
             frames: [frames::none(), frames::none()],
         }
     }
 
+    // A refusal sends nothing.
     pub fn refused(refusal: Refusal) -> Self
         ensures { result ≡ answering (refusal_number refusal) [] }
     {
-        Answer::silent(refusal.into())
+        Answer {
+            refusal: refusal.into(),
+            ..Answer::silent()
+        }
     }
 
     pub fn one(first: Frame) -> Self
@@ -84,7 +88,7 @@ pub fn timed(
         if beats {
             return Answer::one(frames::heartbeat(node, network));
         }
-        return Answer::silent(0);
+        return Answer::silent();
     }
     let pdo = frames::pdo(number, node, axes);
     if beats {
@@ -99,7 +103,7 @@ pub fn replied(reply: Option<[u8; 8]>, caller: Caller, node: u8) -> Answer
 {
     match reply {
         Some(bytes) => Answer::one(frames::reply(caller, node, bytes)),
-        None => Answer::silent(0),
+        None => Answer::silent(),
     }
 }
 

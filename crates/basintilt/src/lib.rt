@@ -36,8 +36,7 @@ pub struct Happening {
 fn event_of(happening: Happening) -> Event
     ensures { result ≡ event_of happening }
 {
-    let kind = happening.kind;
-    match kind {
+    match happening.kind {
         0 => Event::Received(FrameHead {
             identifier: happening.identifier,
             remote: false,
@@ -100,8 +99,7 @@ pub extern "C" fn basintilt_power_on(node: u32, identity: Identity, journal: &[u
 pub extern "C" fn basintilt_block(block: &[u8], place: u32) -> u32
     ensures { Told block.now place result }
 {
-    let answer = block::judge(block, place);
-    match answer {
+    match block::judge(block, place) {
         Judged::Good => 0,
         Judged::Blank => 1,
         Judged::Neither => 2,

@@ -19,7 +19,7 @@ impl Device {
         ensures { DoneBeside (does act (seen self.old journal.old)) result self.new journal.new }
     {
         match act {
-            Act::Stay => Answer::silent(0),
+            Act::Stay => Answer::silent(),
             Act::Tick(ms) => self.tick(ms),
             Act::Sync => self.sync(),
             Act::Measure(axis, m) => self.measure(axis, m),

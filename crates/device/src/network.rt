@@ -58,7 +58,7 @@ impl Device {
     {
         self.network = states::OPERATIONAL;
         self.pdo = timers::no_counts();
-        Answer::silent(0)
+        Answer::silent()
     }
 
     // 02h and 80h.
@@ -66,7 +66,7 @@ impl Device {
         ensures { Done (does (Enter network) (alone self.old)) result self.new }
     {
         self.network = network;
-        Answer::silent(0)
+        Answer::silent()
     }
 
     // 81h: the number set takes effect.

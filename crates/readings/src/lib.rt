@@ -123,11 +123,11 @@ pub fn alarm(node: u8, network: u8, fault: Option<u16>, before: u8, after: u8) -
     ensures { result ≡ answering 0 (alarm_of node network fault before after) }
 {
     if network == states::STOPPED {
-        return Answer::silent(0);
+        return Answer::silent();
     }
     match fault {
         Some(code) => Answer::one(frames::emergency(node, code, after)),
         None if (before != 0) & (after == 0) => Answer::one(frames::emergency(node, 0, after)),
-        None => Answer::silent(0),
+        None => Answer::silent(),
     }
 }
