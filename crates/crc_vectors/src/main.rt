@@ -2,10 +2,8 @@
 #![tactic(auto)]
 
 ghost use Rattle.std.specs.Prelude.{◌≡◌, ◌≢◌, ℕ, ◌<◌, ◌≤◌, length, slice_index, IfOk};
-ghost use Rattle.std.specs.Io.{ReadsAtMost};
 
 use std::io;
-use std::io::Read;
 
 const LINE_FEED: u8 = 10;
 
@@ -43,23 +41,8 @@ fn print_lines(rt: &impl Print, text: &[u8]) -> io::Result<()> {
     Ok(())
 }
 
-// Reads until the space is full or the input ends.
-fn read_full(input: &mut impl Read, space: &mut [u8]) -> io::Result<usize>
-    ensures { ReadsAtMost result space.new }
-{
-    let mut done = 0;
-    while done < space.len() {
-        let n = input.read(&mut space[done..])?;
-        if n == 0 {
-            break;
-        }
-        done += n;
-    }
-    Ok(done)
-}
-
 fn main(rt: HostRuntime) -> io::Result<()> {
     let mut space = [0u8; 65536];
-    let n = read_full(&mut rt.stdin(), &mut space)?;
+    let n = streams::read_full(&mut rt.stdin(), &mut space)?;
     print_lines(&rt, &space[..n])
 }

@@ -1,6 +1,6 @@
 -- `read_full` ends: each read moves the place on, up to the length.
 use Rattle.std.proofs.Common.{length, ◌-◌, ◌≤◌}
-use Rattle.crc_vectors.proofs.read_full.Given as goal
+use Rattle.streams.proofs.read_full.Given as goal
 
 abbrev pub invariant-loop-done : goal.invariant-loop-done
 invariant-loop-done g l = l.done ≤ length l.space
