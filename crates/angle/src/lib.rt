@@ -52,19 +52,11 @@ impl Tilt {
         }
     }
 
-    // How far the reading is from 0.
-    fn size(self) -> u32
-        ensures { result ≡ nat_abs self.reading.m }
-    {
-        let m = self.reading.m;
-        if m < 0 { (-m) as u32 } else { m as u32 }
-    }
-
     // m / r rounded to the nearest whole number, halves away from zero: rounded by its size, with its sign.
     fn steps(self) -> i32
         ensures { result ≡ steps self.reading.m self.resolution }
     {
-        let whole = self.rounded(self.size()) as i32;
+        let whole = self.rounded(self.reading.m.unsigned_abs()) as i32;
         if self.reading.m < 0 { -whole } else { whole }
     }
 
@@ -161,11 +153,10 @@ impl Tilt {
         if self.reading.state != states::GOOD {
             return Err(Abort::AxisNotGood);
         }
-        let wanted = self.offset(preset);
-        if (-32768 <= wanted) & (wanted <= 32767) {
-            return Ok(wanted as i16);
+        match i16::try_from(self.offset(preset)) {
+            Ok(offset) => Ok(offset),
+            Err(_) => Err(Abort::WrongValue),
         }
-        Err(Abort::WrongValue)
     }
 }
 
@@ -215,11 +206,5 @@ fn way_up(z: i32, half: u32) -> u32
 fn nearer(z: i32) -> i16
     ensures { result ≡ nearer 32767 z }
 {
-    if z < -32767 {
-        return -32767;
-    }
-    if 32767 < z {
-        return 32767;
-    }
-    z as i16
+    z.clamp(-32767, 32767) as i16
 }

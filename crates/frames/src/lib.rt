@@ -126,13 +126,6 @@ pub fn reply(caller: Caller, node: u8, bytes: [u8; 8]) -> Frame
     frame(reply_at(caller, node), bytes)
 }
 
-// A bit of the register, where it is set.
-fn bit(set: bool, value: u8) -> u8
-    ensures { (result ≡ cond set value 0) × (result ≤ value) }
-{
-    if set { value } else { 0 }
-}
-
 // Bit 7 is the journal's, bit 5 the axes', bit 0 is set with either.
 #[tactic(auto, unfolding(rules::specs::Errors::register))]
 pub fn register(spoiled: u8, x: u32, y: u32) -> u8
@@ -140,5 +133,5 @@ pub fn register(spoiled: u8, x: u32, y: u32) -> u8
 {
     let bad = spoiled != 0;
     let axes = (x == states::FAULTY) | (y == states::FAULTY);
-    bit(bad, 0x80) + bit(axes, 0x20) + bit(bad | axes, 1)
+    (u8::from(bad) << 7) + (u8::from(axes) << 5) + u8::from(bad | axes)
 }

@@ -26,7 +26,8 @@ returns-then-self-lt0 c =
     let t = c.args.self in
     let n = c.rounded-whole.result in
     let fits : SFits w32 t.reading.m = search rules in
-    let whole = simp c.size.ensures at c.rounded-whole.ensures in
+    let size = simp (to_z-of_z fits) at c.unsigned_abs.ensures.value in
+    let whole = simp size at c.rounded-whole.ensures in
     let few = small t.reading.m t.resolution n t.inside whole in
     simp (read n few, minus, simp (to_z-of_z fits) at c.if-self-lt0.true, sym whole) (to_z-of_z (negated n few))
 
@@ -36,5 +37,6 @@ returns-else-self-lt0 c =
     let t = c.args.self in
     let n = c.rounded-whole.result in
     let fits : SFits w32 t.reading.m = search rules in
-    let whole = simp c.size.ensures at c.rounded-whole.ensures in
+    let size = simp (to_z-of_z fits) at c.unsigned_abs.ensures.value in
+    let whole = simp size at c.rounded-whole.ensures in
     simp (read n (small t.reading.m t.resolution n t.inside whole), simp (to_z-of_z fits) at c.if-self-lt0.false, sym whole)
