@@ -44,7 +44,7 @@ pub fn read(text: &Text) -> Result<Parsed, Malformed>
     }
 }
 
-// The refusal that the form of a line earns.
+// The refusal that the form of a line earns, 0 for none: the paper's number, as the definition gives it for every case.
 pub fn refusal(read: Result<Parsed, Malformed>) -> u8
     ensures { result ≡ line_refusal read }
 {

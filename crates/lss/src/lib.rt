@@ -25,6 +25,7 @@ pub struct Sight {
     pub spoiled: u8,
 }
 
+// The errors, which a reply alone tells, as the number behind its command: an enum would be turned back at once.
 const OUT_OF_RANGE: u32 = 1;
 
 const NO_ROOM: u32 = 2;

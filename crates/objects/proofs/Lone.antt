@@ -5,12 +5,12 @@ use Rattle.rules.specs.declared.objects.Axis.{Axis}
 use Rattle.rules.specs.declared.objects.Axis.TheVariants.{X, Y}
 use Rattle.rules.specs.declared.objects.Channel.{Channel}
 use Rattle.rules.specs.declared.objects.Channel.TheVariants.{One, Two}
-use Rattle.rules.specs.declared.objects.Fixed.TheVariants.{DeviceType, ErrorRegister, SyncIdentifier, EmergencyIdentifier, Blocks}
+use Rattle.rules.specs.declared.objects.Fixed.TheVariants.{DeviceType, ErrorRegister, SyncIdentifier, SaveCount, LoadCount, EmergencyIdentifier, Blocks}
 use Rattle.rules.specs.declared.objects.Object.{Object}
-use Rattle.rules.specs.declared.objects.Object.TheVariants.{Const, Name, Filled, Angle, Of}
+use Rattle.rules.specs.declared.objects.Object.TheVariants.{Const, Name, Save, Load, Filled, Angle, Of}
 use Rattle.rules.specs.declared.objects.Setting.TheVariants.{Heartbeat, Resolution, Operating, Preset, Offset, Differential}
 use Rattle.rules.specs.Objects.{find, object_at, on_axis, on_channel}
-use Rattle.objects.specs.Rows.{only_at, server_at}
+use Rattle.objects.specs.Rows.{counted_at, only_at, server_at}
 
 pub data Lone : ℕ → Object → Type 0 where
   device_type : Lone 0x1000 (Const DeviceType)
@@ -54,3 +54,12 @@ pub server_at_lem : (c : Channel) (s : ℕ) → server_at c s ≡ object_at (on_
 unfolding find
 server_at_lem One s = refl
 server_at_lem Two s = refl
+
+-- 1010 and 1011, each with its count and its one command
+pub saves-counted : (subindex : ℕ) → counted_at SaveCount Save subindex ≡ object_at 0x1010 subindex
+unfolding find
+saves-counted subindex = refl
+
+pub loads-counted : (subindex : ℕ) → counted_at LoadCount Load subindex ≡ object_at 0x1011 subindex
+unfolding find
+loads-counted subindex = refl

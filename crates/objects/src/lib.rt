@@ -4,7 +4,7 @@
 ghost use Rattle.std.specs.Prelude.{◌≡◌};
 ghost use Rattle.rules.specs.Objects.{on_pdo, object_at};
 ghost use Rattle.rules.specs.Requests.{index_of, subindex_of};
-ghost use Rattle.objects.specs.Rows.{only_at, server_at};
+ghost use Rattle.objects.specs.Rows.{counted_at, only_at, server_at};
 
 use rules::aborts::Abort;
 use rules::objects::{Axis, Channel, Fixed, Object, PdoNumber, PdoSetting, Setting};
@@ -36,28 +36,15 @@ fn error_list(subindex: u8) -> Result<Object, Abort>
     Ok(o)
 }
 
-#[tactic(auto, unfolding(rules::specs::Objects::find))]
-fn saving(subindex: u8) -> Result<Object, Abort>
-    ensures { result ≡ object_at 0x1010 subindex }
+// 1010 and 1011: how many there are, and the one.
+fn counted(count: Fixed, one: Object, subindex: u8) -> Result<Object, Abort>
+    ensures { result ≡ counted_at count one subindex }
 {
-    let o = match subindex {
-        0 => Object::Const(Fixed::SaveCount),
-        1 => Object::Save,
-        _ => return Err(Abort::NoSubindex),
-    };
-    Ok(o)
-}
-
-#[tactic(auto, unfolding(rules::specs::Objects::find))]
-fn loading(subindex: u8) -> Result<Object, Abort>
-    ensures { result ≡ object_at 0x1011 subindex }
-{
-    let o = match subindex {
-        0 => Object::Const(Fixed::LoadCount),
-        1 => Object::Load,
-        _ => return Err(Abort::NoSubindex),
-    };
-    Ok(o)
+    match subindex {
+        0 => Ok(Object::Const(count)),
+        1 => Ok(one),
+        _ => Err(Abort::NoSubindex),
+    }
 }
 
 #[tactic(auto, unfolding(rules::specs::Objects::find))]
@@ -125,8 +112,8 @@ pub fn object_at(index: u16, subindex: u8) -> Result<Object, Abort>
         0x1003 => return error_list(subindex),
         0x1005 => Object::Const(Fixed::SyncIdentifier),
         0x1008 => Object::Name,
-        0x1010 => return saving(subindex),
-        0x1011 => return loading(subindex),
+        0x1010 => return counted(Fixed::SaveCount, Object::Save, subindex),
+        0x1011 => return counted(Fixed::LoadCount, Object::Load, subindex),
         0x1014 => Object::Const(Fixed::EmergencyIdentifier),
         0x1017 => Object::Of(Setting::Heartbeat),
         0x1018 => return identity(subindex),

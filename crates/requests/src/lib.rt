@@ -81,7 +81,8 @@ pub fn value(size: u8, request: [u8; 8]) -> u32
     lowest(size, whole)
 }
 
-// The rule that names a received frame; a wrong one is refused, and what no rule names does nothing.
+// The rule that names a received frame; a wrong one is refused, and what no rule names does nothing. All five ways are told apart in one place, by `acts`,
+// which makes the refusal of a wrong one: an error type of its own would be turned into that there.
 #[derive(Clone, Copy)]
 pub enum Rule {
     Wrong,

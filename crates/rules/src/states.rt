@@ -1,4 +1,4 @@
-// The numbers of the record's states: NMT, transfers, axes and LSS.
+// The numbers of the record's states: NMT, transfers, axes and LSS. They are C's, and any number can be given: an enum could not hold it.
 pub const STOPPED: u8 = 4;
 
 pub const OPERATIONAL: u8 = 5;

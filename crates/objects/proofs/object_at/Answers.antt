@@ -3,10 +3,16 @@ use Rattle.std.proofs.Common.{arith, ℕ, ◌≢◌, ◌∙◌, ne_eqb}
 use Rattle.rules.specs.declared.objects.Axis.TheVariants.{X, Y}
 use Rattle.rules.specs.declared.objects.Channel.TheVariants.{One, Two}
 use Rattle.rules.specs.Objects.{find}
-use Rattle.objects.proofs.Lone.{Lone, lone_at, server_at_lem}
+use Rattle.objects.proofs.Lone.{Lone, lone_at, server_at_lem, saves-counted, loads-counted}
 use Rattle.objects.proofs.Lone.Lone.{device_type, error_register, sync_identifier, name, emergency_identifier, heartbeat, filled, blocks, resolution, angle, operating, preset, offset, differential}
 use Rattle.objects.proofs.object_at.Goals as goal
 use Rattle.objects.proofs.object_at.Goals.{in-4096, in-4097, in-4101, in-4104, in-4116, in-4119, in-8448, in-8449, in-24576, in-24592, in-24593, in-24594, in-24595, in-24596, in-24608, in-24609, in-24610, in-24611, in-24612}
+
+pub returns-in-4112 : goal.returns-in-4112
+returns-in-4112 c = rw c.in-4112.is (c.counted.ensures ∙ saves-counted _)
+
+pub returns-in-4113 : goal.returns-in-4113
+returns-in-4113 c = rw c.in-4113.is (c.counted-in-4113.ensures ∙ loads-counted _)
 
 pub returns-in-4608 : goal.returns-in-4608
 returns-in-4608 c = rw c.in-4608.is (c.server.ensures ∙ server_at_lem One _)
