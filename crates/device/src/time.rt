@@ -65,7 +65,6 @@ impl Device {
         )
     }
 
-    #[tactic(auto, unfolding(rules::specs::Readings::on_reading))]
     pub(crate) fn measure(&mut self, axis: Axis, m: i32) -> Answer
         ensures { Done (does (Measure axis m) (alone self.old)) result self.new }
     {
