@@ -3,3 +3,4 @@ pub mod EventRows
 pub mod PowerOnRows
 pub mod Untouched
 pub mod WorksOn
+pub mod Numbers

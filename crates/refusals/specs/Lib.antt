@@ -1,3 +1,4 @@
 pub mod Rows
 pub mod Untouched
 pub mod WorksOn
+pub mod Numbers
