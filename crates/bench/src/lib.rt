@@ -39,7 +39,7 @@ impl Bench {
     fn new() -> Self {
         Bench {
             device: power_on::zero_record(),
-            journal: [[0xFF; 512]; 2],
+            journal: [image::blank(); 2],
             line: Text::new(),
         }
     }

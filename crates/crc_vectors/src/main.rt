@@ -7,7 +7,7 @@ use std::io;
 
 const LINE_FEED: u8 = 10;
 
-// The end of the line that starts at a place: its line feed, or the end of the text.
+// The end of the line that starts at a place: its line feed, or the end of the text. By index, since what it promises of each place before is said by index.
 fn line_end(text: &[u8], from: usize) -> usize
     requires { from ≤ length text.now }
     ensures low { from ≤ result }

@@ -44,7 +44,7 @@ pub fn none() -> Frame
 pub fn heartbeat(node: u8, network: u8) -> Frame
     ensures { result ≡ Frames.heartbeat_frame node network }
 {
-    frame(HEARTBEAT_AT + (node as u16), [network])
+    frame(HEARTBEAT_AT + u16::from(node), [network])
 }
 
 pub fn boot_up(node: u8) -> Frame
@@ -58,7 +58,7 @@ pub fn emergency(node: u8, code: u16, register: u8) -> Frame
 {
     let [low, high] = code.to_le_bytes();
     frame(
-        EMERGENCY_AT + (node as u16),
+        EMERGENCY_AT + u16::from(node),
         [low, high, register, 0, 0, 0, 0, 0],
     )
 }
@@ -86,7 +86,7 @@ pub fn pdo(number: PdoNumber, node: u8, axes: Axes) -> Frame
     let [x_low, x_high] = shown_bytes(axes.tilt(Axis::X));
     let [y_low, y_high] = shown_bytes(axes.tilt(Axis::Y));
     frame(
-        pdo_at(number) + (node as u16),
+        pdo_at(number) + u16::from(node),
         [x_low, x_high, y_low, y_high],
     )
 }
@@ -115,7 +115,7 @@ fn reply_at(caller: Caller, node: u8) -> u16
     ensures { result ≡ reply_at caller node }
 {
     match caller {
-        Caller::Client(channel) => replies_at(channel) + (node as u16),
+        Caller::Client(channel) => replies_at(channel) + u16::from(node),
         Caller::Master => LSS_REPLY_AT,
     }
 }

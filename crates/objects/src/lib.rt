@@ -24,16 +24,11 @@ fn only(subindex: u8, o: Object) -> Result<Object, Abort>
 fn error_list(subindex: u8) -> Result<Object, Abort>
     ensures { result ≡ object_at 0x1003 subindex }
 {
-    let o = match subindex {
-        0 => Object::ErrorCount,
-        1 => Object::ErrorEntry(1),
-        2 => Object::ErrorEntry(2),
-        3 => Object::ErrorEntry(3),
-        4 => Object::ErrorEntry(4),
-        5 => Object::ErrorEntry(5),
-        _ => return Err(Abort::NoSubindex),
-    };
-    Ok(o)
+    match subindex {
+        0 => Ok(Object::ErrorCount),
+        1..=5 => Ok(Object::ErrorEntry(subindex)),
+        _ => Err(Abort::NoSubindex),
+    }
 }
 
 // 1010 and 1011: how many there are, and the one.

@@ -10,8 +10,6 @@ pub struct Pair {
     pub subindex: u8,
 }
 
-const COLON: u8 = b':';
-
 fn joined(first: Option<u32>, second: Option<u32>) -> Option<Pair>
     ensures { result ≡ joined first second }
 {
@@ -24,14 +22,11 @@ fn joined(first: Option<u32>, second: Option<u32>) -> Option<Pair>
 pub fn pair_in(word: &[u8]) -> Option<Pair>
     ensures { result ≡ pair_in word.now }
 {
-    if word.len() < 5 {
+    let (index, [b':', subindex @ ..]) = word.split_at_checked(4)? else {
         return None;
-    }
-    if word[4] == COLON {
-        return joined(
-            numerals::number_in(16, &word[0..4]),
-            numerals::decimal_in(&word[5..]),
-        );
-    }
-    None
+    };
+    joined(
+        numerals::number_in(16, index),
+        numerals::decimal_in(subindex),
+    )
 }

@@ -30,7 +30,6 @@ pub fn no_reading() -> Reading
 fn measured(m: i32, x: Reading) -> Reading
     ensures { result ≡ measured m x }
 {
-    let last = x.m;
     if ranges::inside(m) {
         Reading {
             state: states::GOOD,
@@ -39,7 +38,7 @@ fn measured(m: i32, x: Reading) -> Reading
     } else {
         Reading {
             state: states::FAULTY,
-            m: last,
+            ..x
         }
     }
 }
@@ -82,11 +81,7 @@ impl Readings {
     pub fn fault(self, axis: Axis, m: i32) -> Option<u16>
         ensures { result ≡ fault_of axis m (of_axis axis self.x self.y) }
     {
-        if fails(m, self.of(axis)) {
-            Some(fault_code(axis))
-        } else {
-            None
-        }
+        fails(m, self.of(axis)).then(|| fault_code(axis))
     }
 
     // Both after a reading: the axis that is not read stays.

@@ -57,19 +57,13 @@ fn refuse(request: [u8; 8], why: Abort) -> Outcome
 fn segment(toggle: u8, transfer: Transfer) -> Outcome
     ensures { result ≡ on_segment toggle transfer }
 {
-    if transfer.stage == states::ABSENT {
-        return said(replies::no_transfer(), states::ABSENT);
+    match (transfer.stage, toggle) {
+        (states::ABSENT, _) => said(replies::no_transfer(), states::ABSENT),
+        (states::AT_START, 0) => said(replies::first_segment(), states::AFTER_SEVEN),
+        (states::AT_START, _) => said(replies::wrong_toggle(), states::ABSENT),
+        (_, 1) => said(replies::last_segment(), states::ABSENT),
+        _ => said(replies::wrong_toggle(), states::ABSENT),
     }
-    if transfer.stage == states::AT_START {
-        if toggle == 0 {
-            return said(replies::first_segment(), states::AFTER_SEVEN);
-        }
-        return said(replies::wrong_toggle(), states::ABSENT);
-    }
-    if toggle == 1 {
-        return said(replies::last_segment(), states::ABSENT);
-    }
-    said(replies::wrong_toggle(), states::ABSENT)
 }
 
 // The string begins a transfer.
@@ -120,10 +114,7 @@ fn accept(channel: Channel, request: [u8; 8], v: View) -> Result<Outcome, Abort>
 fn serve(channel: Channel, request: [u8; 8], v: View) -> Outcome
     ensures { result ≡ on_command channel request (Requests.command request) (object_at (Requests.index_of request) (Requests.subindex_of request)) (viewed v) }
 {
-    match accept(channel, request, v) {
-        Ok(outcome) => outcome,
-        Err(why) => refuse(request, why),
-    }
+    accept(channel, request, v).unwrap_or_else(|why| refuse(request, why))
 }
 
 fn is_served(network: u8) -> bool

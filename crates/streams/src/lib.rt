@@ -6,7 +6,7 @@ ghost use Rattle.std.specs.Io.{ReadsAtMost};
 use std::io;
 use std::io::Read;
 
-// Reads until the space is full or the stream ends.
+// Reads until the space is full or the stream ends, on by as much as each read gives.
 pub fn read_full(input: &mut impl Read, space: &mut [u8]) -> io::Result<usize>
     ensures { ReadsAtMost result space.new }
 {

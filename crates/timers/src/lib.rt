@@ -34,7 +34,7 @@ impl Timer {
     {
         self.runs
             & (self.period != 0)
-            & ((self.period as u32) <= (self.elapsed as u32) + (ms as u32))
+            & (u32::from(self.period) <= u32::from(self.elapsed) + u32::from(ms))
     }
 
     // The count after the tick; what goes beyond the period is lost.
@@ -90,7 +90,7 @@ impl Pdo {
     {
         PdoCounts {
             elapsed: self.timer().after(ms),
-            syncs: self.counts.syncs,
+            ..self.counts
         }
     }
 
@@ -98,15 +98,16 @@ impl Pdo {
         ensures { result ≡ sync_counts_of self.network self.settings }
     {
         self.is_sent()
-            & (PdoSettings::LEAST_SYNCHRONOUS <= self.settings.transmission)
-            & (self.settings.transmission <= PdoSettings::MOST_SYNCHRONOUS)
+            & (PdoSettings::LEAST_SYNCHRONOUS..=PdoSettings::MOST_SYNCHRONOUS).contains(
+                &self.settings.transmission,
+            )
     }
 
     // The SYNC that is counted is the last of its type.
     fn is_sync_due(self) -> bool
         ensures { result ≡ sync_due_of self.settings.transmission self.counts.syncs }
     {
-        (self.settings.transmission as u32) <= (self.counts.syncs as u32) + 1
+        u32::from(self.settings.transmission) <= u32::from(self.counts.syncs) + 1
     }
 
     fn syncs_after(self) -> u16
@@ -131,8 +132,8 @@ impl Pdo {
     {
         if self.counts_syncs() {
             return PdoCounts {
-                elapsed: self.counts.elapsed,
                 syncs: self.syncs_after(),
+                ..self.counts
             };
         }
         self.counts

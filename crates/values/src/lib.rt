@@ -26,10 +26,14 @@ fn mapping(axis: Axis) -> u32
 pub fn fixed_value(f: Fixed, v: View) -> u32
     ensures { result ≡ fixed_value f (register_of (viewed v)) v.node v.identity v.blocks }
 {
-    let node = v.node as u32;
+    let node = u32::from(v.node);
     match f {
         Fixed::DeviceType => 0x0002019A,
-        Fixed::ErrorRegister => frames::register(v.spoiled, v.axes.x.state, v.axes.y.state) as u32,
+        Fixed::ErrorRegister => u32::from(frames::register(
+            v.spoiled,
+            v.axes.x.state,
+            v.axes.y.state,
+        )),
         Fixed::SyncIdentifier => 0x80,
         Fixed::SaveCount => 1,
         Fixed::LoadCount => 1,
@@ -40,12 +44,12 @@ pub fn fixed_value(f: Fixed, v: View) -> u32
         Fixed::Revision => v.identity.revision,
         Fixed::Serial => v.identity.serial,
         Fixed::ServerCount(_) => 2,
-        Fixed::RequestIdentifier(channel) => (frames::requests_at(channel) as u32) + node,
-        Fixed::ReplyIdentifier(channel) => (frames::replies_at(channel) as u32) + node,
+        Fixed::RequestIdentifier(channel) => u32::from(frames::requests_at(channel)) + node,
+        Fixed::ReplyIdentifier(channel) => u32::from(frames::replies_at(channel)) + node,
         Fixed::PdoCount(_) => 5,
         Fixed::MappingCount => 2,
         Fixed::Mapped(axis) => mapping(axis),
-        Fixed::Blocks => v.blocks as u32,
+        Fixed::Blocks => u32::from(v.blocks),
     }
 }
 
@@ -53,7 +57,7 @@ pub fn fixed_value(f: Fixed, v: View) -> u32
 fn on_value(number: PdoNumber, node: u8, on: u8) -> u32
     ensures { result ≡ pdo_value number On node on }
 {
-    let identifier = (frames::pdo_at(number) as u32) + (node as u32);
+    let identifier = u32::from(frames::pdo_at(number)) + u32::from(node);
     if on == 0 {
         0xC0000000 + identifier
     } else {
@@ -66,8 +70,8 @@ fn pdo_value(number: PdoNumber, part: PdoSetting, s: PdoSettings, node: u8) -> u
 {
     match part {
         PdoSetting::On => on_value(number, node, s.on),
-        PdoSetting::Transmission => s.transmission as u32,
-        PdoSetting::Timer => s.timer as u32,
+        PdoSetting::Transmission => u32::from(s.transmission),
+        PdoSetting::Timer => u32::from(s.timer),
     }
 }
 
