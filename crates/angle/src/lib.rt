@@ -26,6 +26,20 @@ fn tenth(n: u32) -> u32
     (n / 2 * 13107 + n / 8) / 65536
 }
 
+fn hundredth(n: u32) -> u32
+    requires { n ≤ 180000 + 500 }
+    ensures { result ≡ n / 100 }
+{
+    tenth(tenth(n))
+}
+
+fn thousandth(n: u32) -> u32
+    requires { n ≤ 180000 + 500 }
+    ensures { result ≡ n / 1000 }
+{
+    tenth(hundredth(n))
+}
+
 // An axis's reading, with what its angle goes by: the resolution, and the axis's own settings.
 #[derive(Clone, Copy)]
 pub struct Tilt {
@@ -47,8 +61,8 @@ impl Tilt {
         match self.resolution {
             1 => n,
             10 => tenth(n),
-            100 => tenth(tenth(n)),
-            _ => tenth(tenth(tenth(n))),
+            100 => hundredth(n),
+            _ => thousandth(n),
         }
     }
 

@@ -40,7 +40,7 @@ both true false k a p = cc
 both false fits k a p = cc
 
 module _ (d : Device) (j : List ℕ) (e : Event) (bytes : List ℕ) (size : ℕ) where
-  come : event e bytes size (seen d j) ≡ comes_to (decided (length_of j) e bytes size (alone d)) (seen d j)
+  pub come : event e bytes size (seen d j) ≡ comes_to (decided (length_of j) e bytes size (alone d)) (seen d j)
   unfolding event
   come =
       rw (range-beside d j)

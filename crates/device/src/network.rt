@@ -53,7 +53,7 @@ impl Device {
     }
 
     // 01h. Start zeroes the PDO's counts.
-    pub(crate) fn operate(&mut self) -> Answer
+    pub fn operate(&mut self) -> Answer
         ensures { Done (does Operate (alone self.old)) result self.new }
     {
         self.network = states::OPERATIONAL;
@@ -62,7 +62,7 @@ impl Device {
     }
 
     // 02h and 80h.
-    pub(crate) fn enter(&mut self, network: u8) -> Answer
+    pub fn enter(&mut self, network: u8) -> Answer
         ensures { Done (does (Enter network) (alone self.old)) result self.new }
     {
         self.network = network;
@@ -71,7 +71,7 @@ impl Device {
 
     // 81h: the number set takes effect.
     #[tactic(auto, unfolding(rules::specs::Network::start))]
-    pub(crate) fn reset(&mut self) -> Answer
+    pub fn reset(&mut self) -> Answer
         ensures { Done (does Reset (alone self.old)) result self.new }
     {
         let set = self.lss.node;
@@ -86,7 +86,7 @@ impl Device {
     }
 
     // 82h: 1017 and 1800 from the stored settings, and the number set.
-    pub(crate) fn communicate(&mut self) -> Answer
+    pub fn communicate(&mut self) -> Answer
         ensures { Done (does Communicate (alone self.old)) result self.new }
     {
         self.running.heartbeat = self.saves.stored.heartbeat;

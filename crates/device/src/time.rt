@@ -24,7 +24,7 @@ impl Device {
     }
 
     #[tactic(auto, unfolding(rules::specs::Time::on_tick))]
-    pub(crate) fn tick(&mut self, ms: u16) -> Answer
+    pub fn tick(&mut self, ms: u16) -> Answer
         requires { Ranged self.old }
         ensures { Done (does (Tick ms) (alone self.old)) result self.new }
     {
@@ -48,7 +48,7 @@ impl Device {
     }
 
     #[tactic(auto, unfolding(rules::specs::Time::on_sync))]
-    pub(crate) fn sync(&mut self) -> Answer
+    pub fn sync(&mut self) -> Answer
         requires { Ranged self.old }
         ensures { Done (does Sync (alone self.old)) result self.new }
     {
@@ -65,7 +65,7 @@ impl Device {
         )
     }
 
-    pub(crate) fn measure(&mut self, axis: Axis, m: i32) -> Answer
+    pub fn measure(&mut self, axis: Axis, m: i32) -> Answer
         ensures { Done (does (Measure axis m) (alone self.old)) result self.new }
     {
         let spoiled = self.saves.spoiled;

@@ -44,13 +44,13 @@ fn measured(m: i32, x: Reading) -> Reading
 }
 
 // The axis becomes faulty with this reading.
-fn fails(m: i32, x: Reading) -> bool
+pub fn fails(m: i32, x: Reading) -> bool
     ensures { result ≡ fails m x }
 {
     !ranges::inside(m) & (x.state != states::FAULTY)
 }
 
-fn fault_code(axis: Axis) -> u16
+pub fn fault_code(axis: Axis) -> u16
     ensures { result ≡ fault_code axis }
 {
     match axis {
@@ -68,7 +68,7 @@ pub struct Readings {
 
 impl Readings {
     // The axis that is read.
-    fn of(self, axis: Axis) -> Reading
+    pub fn of(self, axis: Axis) -> Reading
         ensures { result ≡ of_axis axis self.x self.y }
     {
         match axis {

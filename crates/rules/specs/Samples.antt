@@ -1,10 +1,10 @@
 -- Sample values (a) to (l), with item 2 of 02, and turned angles of item 5, one table.
 use Rattle.std.specs.Prelude.{◌≡◌, Bool, true, false, List, [], ◌∷◌, ℕ, ℤ, pos, get_or, Result, Ok, Err}
-use Rattle.rules.specs.declared.aborts.Abort.{Abort}
-use Rattle.rules.specs.declared.aborts.Abort.TheVariants.{WrongValue}
+use Rattle.std.specs.Result.{result_map_both}
 use Rattle.rules.specs.declared.objects.PdoNumber.TheVariants.{First}
 use Rattle.rules.specs.declared.objects.PdoSetting.TheVariants.{Transmission}
 use Rattle.rules.specs.declared.objects.Setting.TheVariants.{Heartbeat, Pdo}
+use Rattle.rules.specs.Aborts.{abort_code}
 use Rattle.rules.specs.Angle.{angle, zeroed}
 use Rattle.rules.specs.Numbers.{minus}
 use Rattle.rules.specs.Replies.{first_segment, last_segment}
@@ -13,16 +13,16 @@ use Rattle.rules.specs.State.{good}
 
 pub data Sample : Type 0 where
   shows : ℤ → Sample
-  zeroes : Result ℤ Abort → Sample
+  zeroes : Result ℤ ℕ → Sample
   passes : Bool → Sample
   begins : ℕ → Sample
 
--- the angle of m at r with the bits of 6011 and an offset, and a preset on a good axis
+-- the angle of m at r with the bits of 6011 and an offset, and a preset on a good axis, refused by its abort code
 abbrev pub angle_of : ℤ → ℕ → ℕ → ℤ → Sample
 angle_of m r operating offset = shows (angle m r operating offset (pos 0))
 
 abbrev pub preset_on : ℤ → ℕ → ℤ → Sample
-preset_on m r preset = zeroes (zeroed (record { state = good; m = m }) r 0 (pos 0) preset)
+preset_on m r preset = zeroes (result_map_both (λ o. o) abort_code (zeroed (record { state = good; m = m }) r 0 (pos 0) preset))
 
 -- what is asked, (a) to (l) in their order; then with bit 1: half a turn either way, 91 turns either way, and at r 1 past half a turn either way
 abbrev pub asked : List Sample
@@ -45,7 +45,7 @@ told =
     shows (pos 1235) ∷ shows (minus 1235) ∷ shows (minus 2) ∷
     shows (pos 32767) ∷ shows (minus 32767) ∷
     zeroes (Ok (minus 1235)) ∷ shows (pos 0) ∷
-    zeroes (Ok (minus 32768)) ∷ zeroes (Err WrongValue) ∷
+    zeroes (Ok (minus 32768)) ∷ zeroes (Err 0x06090030) ∷
     passes true ∷ passes true ∷ passes false ∷
     passes true ∷ passes true ∷ passes false ∷
     passes false ∷ passes false ∷
