@@ -4,7 +4,6 @@
 use answers::Answer;
 use device::{Device, Stepped};
 use plain_lines::Line;
-use printing::{FrameLine, RefusalLine};
 use rules::parts::Identity;
 use std::io;
 use std::io::{Input, Read};
@@ -20,9 +19,16 @@ struct Bench {
     line: Text,
 }
 
+fn print(rt: &impl Print, text: &Text) -> io::Result<()> {
+    if let Some(line) = text.line() {
+        rt.write_all(line)?;
+    }
+    Ok(())
+}
+
 fn print_refusal(rt: &impl Print, refusal: u16) -> io::Result<()> {
     if refusal != 0 {
-        rt.print(RefusalLine(refusal))?;
+        print(rt, &printing::refusal_text(refusal))?;
     }
     Ok(())
 }
@@ -30,7 +36,7 @@ fn print_refusal(rt: &impl Print, refusal: u16) -> io::Result<()> {
 fn print_answer(rt: &impl Print, answer: &Answer) -> io::Result<()> {
     print_refusal(rt, answer.refusal)?;
     for frame in answer.frames.iter().take(usize::from(answer.count)) {
-        rt.print(FrameLine(*frame))?;
+        print(rt, &printing::frame_text(*frame))?;
     }
     Ok(())
 }
@@ -40,7 +46,7 @@ impl Bench {
         Bench {
             device: power_on::zero_record(),
             journal: [image::blank(); 2],
-            line: Text::new(),
+            line: Text::empty(),
         }
     }
 
@@ -84,7 +90,7 @@ impl Bench {
     fn take(&mut self, rt: &impl Print, b: u8) -> io::Result<()> {
         if b == LINE_FEED {
             self.run(rt)?;
-            self.line = Text::new();
+            self.line = Text::empty();
         } else {
             self.line.push(b);
         }
